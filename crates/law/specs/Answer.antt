@@ -1,0 +1,12 @@
+-- What a call answers: a value, or document 01's number of a refusal. Assumes nothing.
+use mathlib.Core.Bool.{Bool, true, false}
+use Prim.Native.Nat.{ℕ}
+
+pub data Answer (A : Type 0) : Type 0 where
+  value : A → Answer A
+  refused : ℕ → Answer A
+
+-- refused with this number where the test holds; else what follows: so refusals are read in their order
+abbrev pub refusing : {A : Type 0} → Bool → ℕ → Answer A → Answer A
+refusing true number next = refused number
+refusing false number next = next

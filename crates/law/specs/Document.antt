@@ -1,0 +1,249 @@
+-- Document 01 as definitions, its sections in its order and words: hold the two side by side.
+-- N is the years elapsed from 1684 and d a day, signed. An angle is in whole units, and a place may be below 0 or past the circle.
+-- Assumes nothing.
+use mathlib.Core.Bool.{Bool, true, false, cond, _||_}
+use Prim.Native.Nat.{ℕ, zero, suc, _+_, _*_, _-_, _/_, _%_}
+use lib.Dec.{leb, ltb}
+use lib.IntN.{ℤ, pos, negℤ, natAbs, _+ℤ_, _-ℤ_, _*ℤ_}
+use lib.Signed.{ltZ}
+use Rattle.tables.specs.Entry.{lastTangent, sineEntry, tangentEntry}
+use Rattle.law.specs.Round.{halfUp, halfUpOnSize, floorDiv, floorMod}
+use Rattle.law.specs.Answer.{Answer, value, refusing}
+
+-- ======== Units and constants
+
+-- 60,000,000 units to one second of arc
+abbrev pub second : ℕ
+second = 60_000_000
+
+abbrev pub minute : ℕ
+minute = 60 * second
+
+abbrev pub degree : ℕ
+degree = 60 * minute
+
+-- a circle is 1,296,000 seconds
+abbrev pub circle : ℕ
+circle = 1_296_000 * second
+
+abbrev pub half : ℕ
+half = circle / 2
+
+abbrev pub quarter : ℕ
+quarter = circle / 4
+
+-- days are counted in thousand-millionths
+abbrev pub day : ℕ
+day = 1_000_000_000
+
+-- 365.2421875 days
+abbrev pub yearLength : ℕ
+yearLength = 365 * day + 242_187_500
+
+-- mean daily motion, 3548.3305169″
+abbrev pub dailyMotion : ℕ
+dailyMotion = 212_899_831_014
+
+-- perigee, yearly, 61.16666″
+abbrev pub perigeeYearly : ℕ
+perigeeYearly = 3_669_999_600
+
+-- perigee, daily, 0.167469″
+abbrev pub perigeeDaily : ℕ
+perigeeDaily = 10_048_140
+
+-- perigee at epoch, 7°10′11″10‴
+abbrev pub perigeeEpoch : ℕ
+perigeeEpoch = 1_548_670_000_000
+
+-- day epoch, 7.656374926 days
+abbrev pub dayEpoch : ℕ
+dayEpoch = 7 * day + 656_374_926
+
+-- mansion epoch, 5.656374926 days
+abbrev pub mansionEpoch : ℕ
+mansionEpoch = 5 * day + 656_374_926
+
+abbrev pub radius : ℕ
+radius = 10_000_000
+
+-- the difference of the two epicycles
+abbrev pub epicycles : ℕ
+epicycles = 268_812 - 89_604
+
+-- ======== Year, day, anomaly
+
+-- the mean solstice stands at day epoch plus N years, counted from a jiazi day 0
+unfoldable pub solstice : ℤ → ℤ
+solstice N = pos dayEpoch +ℤ N *ℤ pos yearLength
+
+-- its whole part, rounded down, taken by 60, is the day name
+unfoldable pub dayName : ℤ → ℕ
+dayName N = floorMod (floorDiv (solstice N) day) 60
+
+unfoldable pub fraction : ℤ → ℕ
+fraction N = floorMod (solstice N) day
+
+-- the duty mansion is mansion epoch plus N years, rounded down, plus one, taken by 28
+unfoldable pub mansion : ℤ → ℕ
+mansion N = floorMod (floorDiv (pos mansionEpoch +ℤ N *ℤ pos yearLength) day +ℤ pos 1) 28
+
+-- the root is (1 − the solstice's fraction) times the daily motion, a half or more rounded up to a unit
+unfoldable pub root : ℤ → ℕ
+root N = halfUp ((day - fraction N) * dailyMotion) day
+
+-- mean place = root + d daily motions
+unfoldable pub meanPlace : ℤ → ℤ → ℤ
+meanPlace N d = pos (root N) +ℤ d *ℤ pos dailyMotion
+
+-- perigee = epoch value + N yearly + d daily motions of the perigee
+unfoldable pub perigee : ℤ → ℤ → ℤ
+perigee N d = pos perigeeEpoch +ℤ N *ℤ pos perigeeYearly +ℤ d *ℤ pos perigeeDaily
+
+-- brought into the circle
+unfoldable pub inCircle : ℤ → ℕ
+inCircle z = floorMod z circle
+
+-- anomaly = mean place − perigee, brought into the circle
+unfoldable pub anomaly : ℤ → ℤ → ℕ
+anomaly N d = inCircle (meanPlace N d -ℤ perigee N d)
+
+-- ======== Sines, tangents, equation of centre: a is an anomaly in the circle, e the difference of the epicycles
+
+-- mirrored past the half circle (circle − anomaly), then past the quarter (half circle − it)
+unfoldable pub mirrored : ℕ → ℕ
+mirrored a = cond (leb a half) a (circle - a)
+
+unfoldable pub folded : ℕ → ℕ
+folded a = cond (leb (mirrored a) quarter) (mirrored a) (half - mirrored a)
+
+-- one entry for each 10′
+abbrev pub tenMinutes : ℕ
+tenMinutes = 10 * minute
+
+-- of a table with an entry for each 10′: the entry below plus the proportional part of the step, rounded down
+unfoldable pub between : (ℕ → ℕ) → ℕ → ℕ
+between entry x =
+    entry (x / tenMinutes) + (entry (x / tenMinutes + 1) - entry (x / tenMinutes)) * (x % tenMinutes) / tenMinutes
+
+-- the sine of an arc up to a quarter circle; the cosine is the sine of the complement
+unfoldable pub sine : ℕ → ℕ
+sine x = between sineEntry x
+
+unfoldable pub cosine : ℕ → ℕ
+cosine x = sine (quarter - x)
+
+-- 1. height = 179,208 × sine / radius; base = 179,208 × cosine / radius; half or more rounds up in both
+unfoldable pub height : ℕ → ℕ → ℕ
+height e a = halfUp (e * sine (folded a)) radius
+
+unfoldable pub base : ℕ → ℕ → ℕ
+base e a = halfUp (e * cosine (folded a)) radius
+
+-- 2. the long side is radius − base up to a quarter circle from the perigee, else radius + base
+unfoldable pub longSide : ℕ → ℕ → ℕ
+longSide e a = cond (leb (mirrored a) quarter) (radius - base e a) (radius + base e a)
+
+-- 3. tangent = doubled height × radius / long side, half or more up
+unfoldable pub tangent : ℕ → ℕ → ℕ
+tangent e a = halfUp (2 * height e a * radius) (longSide e a)
+
+-- 4. the last minute, up to n, whose entry is not above the tangent t
+unfoldable pub lastMinute : ℕ → ℕ → ℕ
+lastMinute t zero = zero
+lastMinute t (suc n) = cond (leb (tangentEntry (suc n)) t) (suc n) (lastMinute t n)
+
+-- minute m, plus the proportional part of that minute, rounded down to a unit (at the last entry nothing is over)
+unfoldable pub anglePast : ℕ → ℕ → ℕ
+anglePast m t = m * minute + (t - tangentEntry m) * minute / (tangentEntry (m + 1) - tangentEntry m)
+
+unfoldable pub angle : ℕ → ℕ
+angle t = anglePast (lastMinute t lastTangent) t
+
+-- 5. add for anomalies from 0 to below the half circle, subtract from there on
+unfoldable pub equation : ℕ → ℕ → ℤ
+equation e a = cond (ltb a half) (pos (angle (tangent e a))) (negℤ (pos (angle (tangent e a))))
+
+-- the true place is mean place plus equation; run-on, it is not brought into the circle
+unfoldable pub runOnPlace : ℕ → ℤ → ℤ → ℤ
+runOnPlace e N d = meanPlace N d +ℤ equation e (anomaly N d)
+
+-- ======== Term days and minutes
+
+-- term k has its mark at 15k°
+unfoldable pub mark : ℕ → ℤ
+mark k = pos (15 * k * degree)
+
+-- the start is three days before the whole part, rounded down, of (mark − root) / daily motion
+unfoldable pub start : ℤ → ℕ → ℤ
+start N k = floorDiv (mark k -ℤ pos (root N)) dailyMotion -ℤ pos 3
+
+-- the midnights visited from day d on, one further each time with so many left, until the first place past the mark
+unfoldable pub visits : (ℤ → ℤ) → ℤ → ℕ → ℤ → ℕ
+visits place mark zero d = zero
+visits place mark (suc left) d = cond (ltZ mark (place d)) 1 (suc (visits place mark left (d +ℤ pos 1)))
+
+-- at most eight are left at the start
+unfoldable pub count : ℕ → ℤ → ℕ → ℕ
+count e N k = visits (runOnPlace e N) (mark k) 8 (start N k)
+
+-- its day is the one before the first midnight past the mark
+unfoldable pub termDay : ℕ → ℤ → ℕ → ℤ
+termDay e N k = start N k +ℤ pos (count e N k) -ℤ pos 2
+
+-- the minute is 1,440 × (mark − place) / (next place − place), cut off and not rounded
+unfoldable pub minuteOn : ℕ → ℤ → ℤ → ℤ → ℕ
+minuteOn e N mark d =
+    1_440 * natAbs (mark -ℤ runOnPlace e N d) / natAbs (runOnPlace e N (d +ℤ pos 1) -ℤ runOnPlace e N d)
+
+unfoldable pub termMinute : ℕ → ℤ → ℕ → ℕ
+termMinute e N k = minuteOn e N (mark k) (termDay e N k)
+
+-- fifteen seconds of arc make one clock second, half or more up on the size
+unfoldable pub clockOfArc : ℤ → ℤ
+clockOfArc arc = halfUpOnSize arc 15
+
+-- ======== Refusal numbers
+
+abbrev outside : ℤ → ℤ → ℤ → Bool
+outside least most z = ltZ z least || ltZ most z
+
+-- 1: an N outside -2,000 to 2,000
+abbrev pub badYear : ℤ → Bool
+badYear N = outside (negℤ (pos 2_000)) (pos 2_000) N
+
+-- 2: a day outside -4 to 370
+abbrev pub badDay : ℤ → Bool
+badDay d = outside (negℤ (pos 4)) (pos 370) d
+
+-- 5: tangent above the table's end
+abbrev pub offTable : ℕ → ℕ → Bool
+offTable e a = ltb (tangentEntry lastTangent) (tangent e a)
+
+-- ======== What the calls answer, the refusals in their order
+
+pub record YearValues : Type 0 where
+  pub solsticeDay : ℕ
+  pub solsticeFraction : ℕ
+  pub dutyMansion : ℕ
+  pub yearRoot : ℕ
+
+unfoldable pub yearAnswer : ℤ → Answer YearValues
+yearAnswer N =
+    refusing (badYear N) 1
+    (value (record { solsticeDay = dayName N; solsticeFraction = fraction N; dutyMansion = mansion N; yearRoot = root N }))
+
+-- any anomaly given directly is brought into the circle
+unfoldable pub equationAnswer : ℕ → ℤ → Answer ℤ
+equationAnswer e given = refusing (offTable e (inCircle given)) 5 (value (equation e (inCircle given)))
+
+unfoldable pub meanAnswer : ℤ → ℤ → Answer ℕ
+meanAnswer N d = refusing (badYear N) 1 (refusing (badDay d) 2 (value (inCircle (meanPlace N d))))
+
+unfoldable pub trueAnswer : ℕ → ℤ → ℤ → Answer ℕ
+trueAnswer e N d =
+    refusing (badYear N) 1 (refusing (badDay d) 2 (refusing (offTable e (anomaly N d)) 5 (value (inCircle (runOnPlace e N d)))))
+
+unfoldable pub runOnAnswer : ℕ → ℤ → ℤ → Answer ℤ
+runOnAnswer e N d =
+    refusing (badYear N) 1 (refusing (badDay d) 2 (refusing (offTable e (anomaly N d)) 5 (value (runOnPlace e N d))))

@@ -1,0 +1,4 @@
+pub mod Round
+pub mod Answer
+pub mod Document
+pub mod Working

@@ -1,0 +1,136 @@
+// The equation of centre, document 01's steps 1 to 5.
+use crate::constants::CIRCLE;
+use crate::constants::EPICYCLES;
+use crate::constants::HALF;
+use crate::constants::MINUTE;
+use crate::constants::QUARTER;
+use crate::constants::RADIUS;
+use units::Number;
+use units::Refusal;
+use units::Signed;
+ghost use mathlib.Core.Path.{_≡_};
+ghost use Prim.Native.Nat.{_+_, _*_, _≤_, _<_, _^_};
+ghost use lib.IntN.{ℤ};
+ghost use Rattle.law.specs.Round.{halfUp};
+ghost use Rattle.law.specs.Document.{quarter, half, circle, inCircle, sine, angle, epicycles, mirrored, equationAnswer};
+ghost use Rattle.law.specs.Working.{heightOf, baseOf, tangentOf, angleAnswer, sizeAnswer};
+ghost use Rattle.units.specs.Said.{saidNumber, saidSigned};
+ghost use Rattle.sun.specs.Said.{numberUpTo};
+
+const TEN_MINUTES: u64 = 10 * MINUTE;
+
+// n / d, half or more rounded up.
+pub(crate) fn half_up(n: u64, d: u64) -> u64
+    requires { ⌜ (0 < d) × (n < 2 ^ 60) × (d < 2 ^ 60) ⌝ }
+    ensures { λ r. ⌜ r ≡ halfUp n d ⌝ }
+{
+    (2 * n + d) / (2 * d)
+}
+
+// An angle of either sign, brought into the circle.
+fn in_circle(z: i64) -> u64
+    ensures { λ r. ⌜ (r ≡ inCircle z) × (r < circle) ⌝ }
+{
+    if z < 0 {
+        let below = (-(z + 1)) as u64;
+        return CIRCLE - 1 - below % CIRCLE;
+    }
+    (z as u64) % CIRCLE
+}
+
+// The sine of an arc up to a quarter circle.
+fn sine_of(x: u64) -> u64
+    requires { ⌜ x ≤ quarter ⌝ }
+    ensures { λ r. ⌜ (r ≡ sine x) × (r ≤ 10_000_000) ⌝ }
+{
+    let k = (x / TEN_MINUTES) as usize;
+    let below = tables::sine_entry(k);
+    if k == 540 {
+        return below;
+    }
+    let above = tables::sine_entry(k + 1);
+    below + (above - below) * (x % TEN_MINUTES) / TEN_MINUTES
+}
+
+// Step 1: an arc from the perigee or the apogee, up to a quarter circle.
+fn height(x: u64) -> u64
+    requires { ⌜ x ≤ quarter ⌝ }
+    ensures { λ r. ⌜ (r ≡ heightOf epicycles x) × (r ≤ 179_208) ⌝ }
+{
+    half_up(EPICYCLES * sine_of(x), RADIUS)
+}
+
+fn base(x: u64) -> u64
+    requires { ⌜ x ≤ quarter ⌝ }
+    ensures { λ r. ⌜ (r ≡ baseOf epicycles x) × (r ≤ 179_208) ⌝ }
+{
+    half_up(EPICYCLES * sine_of(QUARTER - x), RADIUS)
+}
+
+// Steps 2 and 3: the arc from the perigee, up to a half circle.
+fn tangent(u: u64) -> u64
+    requires { ⌜ u ≤ half ⌝ }
+    ensures { λ r. ⌜ (r ≡ tangentOf epicycles u) × (r < 2 ^ 60) ⌝ }
+{
+    if u <= QUARTER {
+        return half_up(2 * height(u) * RADIUS, RADIUS - base(u));
+    }
+    let x = HALF - u;
+    half_up(2 * height(x) * RADIUS, RADIUS + base(x))
+}
+
+// Step 4. Steps of 2,908 to 2,914 put the minute at t / 2,914 or one further.
+fn angle_of(t: u64) -> Number
+    ensures { λ r. ⌜ (saidNumber r ≡ angleAnswer t) × numberUpTo 468_000_000_000 r ⌝ }
+{
+    let last = tables::tangent_entry(130);
+    if last < t {
+        return Number::Refused(Refusal::TangentAbove);
+    }
+    if t == last {
+        return Number::Is(130 * MINUTE);
+    }
+    let m = (t / 2_914) as usize;
+    let below = tables::tangent_entry(m);
+    let above = tables::tangent_entry(m + 1);
+    if t < above {
+        return Number::Is(part(t, m, below, above));
+    }
+    Number::Is(part(t, m + 1, above, tables::tangent_entry(m + 2)))
+}
+
+// The minute m and the proportional part of it, between the entries below and above t.
+fn part(t: u64, m: usize, below: u64, above: u64) -> u64
+    requires { ⌜ (m < 130) × (below ≤ t) × (t < above) × (above < 2 ^ 30) ⌝ }
+    ensures { λ r. ⌜ r ≤ 468_000_000_000 ⌝ }
+{
+    (m as u64) * MINUTE + (t - below) * MINUTE / (above - below)
+}
+
+// The size of the equation at an anomaly in the circle.
+pub(crate) fn size_at(a: u64) -> Number
+    requires { ⌜ a < circle ⌝ }
+    ensures { λ r. ⌜ (saidNumber r ≡ sizeAnswer epicycles a) × numberUpTo 468_000_000_000 r ⌝ }
+{
+    if a <= HALF {
+        return angle_of(tangent(a));
+    }
+    angle_of(tangent(CIRCLE - a))
+}
+
+// The equation at any anomaly, in units: step 5 adds it below the half circle and takes it away from there on.
+pub fn equation_at(anomaly: i64) -> Signed
+    ensures { λ r. ⌜ saidSigned r ≡ equationAnswer epicycles anomaly ⌝ }
+{
+    let a = in_circle(anomaly);
+    match size_at(a) {
+        Number::Is(size) => {
+            if a < HALF {
+                Signed::Is(size as i64)
+            } else {
+                Signed::Is(-(size as i64))
+            }
+        }
+        Number::Refused(refusal) => Signed::Refused(refusal),
+    }
+}

@@ -1,0 +1,419 @@
+"""Reckons the expected outputs of the show_* programs from the scope document's rules alone.
+
+It shares nothing with the Rattle sources: no code, no table. The sines and tangents are worked out here
+from their series, the numbers are Python's unbounded ones, and each rule is the document's own formula.
+
+    python3 tests/expected.py           writes every expected file
+    python3 tests/expected.py --check   writes nothing; names the files that differ and exits 1 if any does
+"""
+
+import sys
+from decimal import ROUND_HALF_UP, Decimal, getcontext
+from pathlib import Path
+
+ROOT_FOLDER = Path(__file__).resolve().parent.parent
+
+# Angles are in units, days in thousand-millionths.
+SECOND = 60_000_000
+MINUTE = 60 * SECOND
+DEGREE = 60 * MINUTE
+QUARTER = 90 * DEGREE
+HALF = 180 * DEGREE
+CIRCLE = 360 * DEGREE
+THIRD = SECOND // 60
+DAY = 1_000_000_000
+
+YEAR = 365_242_187_500
+DAILY_MOTION = 212_899_831_014
+PERIGEE_YEARLY = 3_669_999_600
+PERIGEE_DAILY = 10_048_140
+PERIGEE_AT_EPOCH = 1_548_670_000_000
+DAY_EPOCH = 7_656_374_926
+MANSION_EPOCH = 5_656_374_926
+RADIUS = 10_000_000
+EPICYCLE_DIFFERENCE = 268_812 - 89_604
+
+LEAST, GREATEST = -(2**63), 2**63 - 1
+
+
+class Refused(Exception):
+    """A refusal; its one argument is the refusal number."""
+
+
+def answer(call, *given):
+    """The answer of a call, or `refused` and the number."""
+    try:
+        return str(call(*given))
+    except Refused as refusal:
+        return f"refused {refusal.args[0]}"
+
+
+def half_up(dividend, divisor):
+    return (2 * dividend + divisor) // (2 * divisor)
+
+
+# The tables.
+
+getcontext().prec = 60
+NEGLIGIBLE = Decimal(10) ** -55
+
+
+def arctangent_of_inverse(number):
+    total, power, odd = Decimal(0), Decimal(1) / number, 1
+    while abs(power) > NEGLIGIBLE:
+        total += power / odd
+        power /= -number * number
+        odd += 2
+    return total
+
+
+PI = 16 * arctangent_of_inverse(5) - 4 * arctangent_of_inverse(239)
+
+
+def series(term, order, square):
+    """The sum of an alternating series x^n/n!, from the term of the given order on by twos."""
+    total = Decimal(0)
+    while abs(term) > NEGLIGIBLE:
+        total += term
+        term *= -square / ((order + 1) * (order + 2))
+        order += 2
+    return total
+
+
+def exact_sine(minutes):
+    arc = PI * minutes / 10_800
+    return series(arc, 1, arc * arc)
+
+
+def exact_cosine(minutes):
+    arc = PI * minutes / 10_800
+    return series(Decimal(1), 0, arc * arc)
+
+
+def nearest(value):
+    # Far from a half, the nearest whole number is sure at this precision.
+    assert abs(value % 1 - Decimal("0.5")) > Decimal("1e-9")
+    return int(value.to_integral_value(ROUND_HALF_UP))
+
+
+SINES = [nearest(RADIUS * exact_sine(10 * k)) for k in range(541)]
+TANGENTS = [nearest(RADIUS * exact_sine(m) / exact_cosine(m)) for m in range(131)]
+SINE_STEP = 10 * MINUTE
+
+
+# Year and day.
+
+
+def require_year(n):
+    if not -2000 <= n <= 2000:
+        raise Refused(1)
+
+
+def require_day(day, minute=0):
+    if not (-4 <= day <= 370 and 0 <= minute <= 1439):
+        raise Refused(2)
+
+
+def solstice(n):
+    require_year(n)
+    return DAY_EPOCH + n * YEAR
+
+
+def day_name(n):
+    return solstice(n) // DAY % 60
+
+
+def fraction(n):
+    return solstice(n) % DAY
+
+
+def mansion(n):
+    return ((MANSION_EPOCH + n * YEAR) // DAY + 1) % 28
+
+
+def root(n):
+    return half_up((DAY - fraction(n)) * DAILY_MOTION, DAY)
+
+
+def clock_of_solstice(n):
+    """Hour, minute and second of the mean solstice, cut off."""
+    seconds = fraction(n) * 86_400 // DAY
+    return seconds // 3600, seconds // 60 % 60, seconds % 60
+
+
+# The equation of centre.
+
+
+def sine(arc):
+    k, rest = divmod(arc, SINE_STEP)
+    if rest == 0:  # the last entry has no step after it
+        return SINES[k]
+    return SINES[k] + (SINES[k + 1] - SINES[k]) * rest // SINE_STEP
+
+
+def height_base_tangent(anomaly):
+    from_perigee = anomaly if anomaly <= HALF else CIRCLE - anomaly
+    arc = from_perigee if from_perigee <= QUARTER else HALF - from_perigee
+    height = half_up(EPICYCLE_DIFFERENCE * sine(arc), RADIUS)
+    base = half_up(EPICYCLE_DIFFERENCE * sine(QUARTER - arc), RADIUS)
+    long_side = RADIUS - base if from_perigee <= QUARTER else RADIUS + base
+    return height, base, half_up(2 * height * RADIUS, long_side)
+
+
+def angle(tangent):
+    if tangent > TANGENTS[-1]:
+        raise Refused(5)
+    minute = max(m for m, entry in enumerate(TANGENTS) if entry <= tangent)
+    rest = tangent - TANGENTS[minute]
+    if rest == 0:  # the last entry has no step after it
+        return minute * MINUTE
+    return minute * MINUTE + rest * MINUTE // (TANGENTS[minute + 1] - TANGENTS[minute])
+
+
+def equation(anomaly):
+    anomaly %= CIRCLE
+    size = angle(height_base_tangent(anomaly)[2])
+    return size if anomaly < HALF else -size
+
+
+# Places of the sun.
+
+
+def mean_run_on(n, day):
+    require_year(n)
+    require_day(day)
+    return root(n) + day * DAILY_MOTION
+
+
+def run_on(n, day):
+    mean = mean_run_on(n, day)
+    perigee = PERIGEE_AT_EPOCH + n * PERIGEE_YEARLY + day * PERIGEE_DAILY
+    return mean + equation(mean - perigee)
+
+
+def mean_place(n, day):
+    return mean_run_on(n, day) % CIRCLE
+
+
+def true_place(n, day):
+    return run_on(n, day) % CIRCLE
+
+
+# Terms and local times.
+
+
+def term(n, k):
+    require_year(n)
+    if k > 23:
+        raise Refused(3)
+    mark = 15 * k * DEGREE
+    start = (mark - root(n)) // DAILY_MOTION - 3
+    past = start
+    while run_on(n, past) <= mark:
+        past += 1
+    day, count = past - 1, past - start + 1
+    place, next_place = run_on(n, day), run_on(n, day + 1)
+    minute = 1440 * (mark - place) // (next_place - place)
+    assert place <= mark < next_place and 2 <= count <= 8 and 0 <= minute <= 1439, (n, k)
+    return f"day {day} minute {minute} count {count}"
+
+
+def clock_seconds(longitude):
+    size = half_up(abs(longitude), 15)
+    return size if longitude >= 0 else -size
+
+
+def local(day, minute, longitude):
+    require_day(day, minute)
+    if abs(longitude) > 648_000:
+        raise Refused(4)
+    minutes = (60 * minute + clock_seconds(longitude)) // 60
+    return f"day {day + minutes // 1440} minute {minutes % 1440}"
+
+
+# Figures quoted from the sources.
+
+# Years, and days, hour and minute of source 003. It also prints seconds, 1, 16 and 16, which are not ours.
+SOLSTICES_003 = [(-600, (42, 8, 15)), (-633, (49, 8, 26)), (-585, (0, 23, 26))]
+
+# Degrees of anomaly, and the equation of source 004 in degrees, minutes, seconds and thirds.
+EQUATIONS_004 = [(30, (1, 2, 34, 18)), (90, (2, 3, 9, 40)), (140, (1, 18, 6, 53))]
+
+# Source 002's places: east (1) or west (-1), degrees, minutes and seconds of arc, minutes and seconds of clock.
+# The scan tore the last row, 朝鲜: its 三十 stands in the next line, its 分则加四十二分 before the first row.
+PLACES_002 = [
+    ("盛京", 1, (7, 15, 0), (29, 0)),
+    ("浙江", 1, (3, 41, 24), (14, 46)),
+    ("福建", 1, (2, 59, 0), (11, 56)),
+    ("江南", 1, (2, 18, 0), (9, 12)),
+    ("山东", 1, (2, 15, 0), (9, 0)),
+    ("江西", -1, (0, 37, 0), (2, 28)),
+    ("河南", -1, (1, 56, 0), (7, 44)),
+    ("湖广", -1, (2, 17, 0), (9, 8)),
+    ("广东", -1, (3, 33, 15), (14, 13)),
+    ("山西", -1, (3, 57, 42), (15, 51)),
+    ("广西", -1, (6, 14, 40), (24, 59)),
+    ("陜西", -1, (7, 33, 40), (30, 15)),
+    ("贵州", -1, (9, 52, 40), (39, 31)),
+    ("四川", -1, (12, 16, 0), (49, 4)),
+    ("云南", -1, (13, 37, 0), (54, 28)),
+    ("朝鲜", 1, (10, 30, 0), (42, 0)),
+]
+
+MARKED_LOCAL_TIMES = [((10, 1435, 13_284), "day 11 minute 9"), ((10, 0, -12_795), "day 9 minute 1425")]
+
+
+def sixties(parts):
+    total = 0
+    for part in parts:
+        total = 60 * total + part
+    return total
+
+
+# What the document states of its tables and answers.
+
+
+def assert_table_rules():
+    steps = [after - before for before, after in zip(SINES, SINES[1:])]
+    assert all(42 <= step <= 29_089 for step in steps)
+    assert all(-86 <= after - before <= 1 for before, after in zip(steps, steps[1:]))
+    assert all(abs(SINES[k] ** 2 + SINES[540 - k] ** 2 - RADIUS**2) <= 14_142_136 for k in range(541))
+    tangent_steps = [after - before for before, after in zip(TANGENTS, TANGENTS[1:])]
+    assert all(2_908 <= step <= 2_914 for step in tangent_steps)
+
+
+def assert_marked_table():
+    assert (fraction(0), root(0)) == (656_374_926, 73_157_720_187)
+    assert (day_name(-1), fraction(-1), day_name(-676)) == (2, 414_187_426, 3)
+    assert equation(0) == equation(HALF) == 0
+    assert height_base_tangent(30 * DEGREE) == (89_604, 155_199, 182_033)
+    assert equation(30 * DEGREE) == -equation(330 * DEGREE) == 225_257_319_587
+    assert height_base_tangent(90 * DEGREE)[2] == 358_416
+    assert equation(90 * DEGREE) == -equation(270 * DEGREE) == 443_382_080_329
+    assert height_base_tangent(140 * DEGREE)[2] == 227_266
+    assert equation(140 * DEGREE) == 281_213_195_876
+    for given, found in MARKED_LOCAL_TIMES:
+        assert local(*given) == found
+
+
+def assert_compared_figures():
+    for n, printed in SOLSTICES_003:
+        assert (day_name(n), *clock_of_solstice(n)[:2]) == printed
+    for degrees, printed in EQUATIONS_004:
+        assert abs(equation(degrees * DEGREE) - sixties(printed) * THIRD) < 3 * THIRD
+    for _, side, arc, clock in PLACES_002:
+        assert clock_seconds(side * sixties(arc)) == side * sixties(clock)
+    # The solstice program's sample: day name, hour, minute, mansion.
+    for n, sample in [(-676, (3, 22, 30, 6)), (-1, (2, 9, 56, 5)), (0, (7, 15, 45, 6)), (1, (12, 21, 33, 7))]:
+        assert (day_name(n), *clock_of_solstice(n)[:2], mansion(n)) == sample
+
+
+# The expected files, one function each, line by line.
+
+
+def tables_lines():
+    for k, entry in enumerate(SINES):
+        yield f"sine {k} {entry}"
+    for m, entry in enumerate(TANGENTS):
+        yield f"tangent {m} {entry}"
+
+
+EVERY_TWENTIETH_YEAR = range(-2000, 2001, 20)
+
+
+def year_values(n):
+    return f"day name {day_name(n)} fraction {fraction(n)} mansion {mansion(n)} root {root(n)}"
+
+
+def year_lines():
+    years = [LEAST, -2002, -2001, *EVERY_TWENTIETH_YEAR, 2001, 2002, GREATEST]
+    years += [-1999, -676, -633, -600, -585, -2, -1, 1, 2, 1999]
+    for n in years:
+        yield f"year {n}: {answer(year_values, n)}"
+    for n, (days, hour, minute) in SOLSTICES_003:
+        ours = "{}:{:02}:{:02}".format(*clock_of_solstice(n))
+        yield f"003 {n}: days {day_name(n)} {ours} printed {days} {hour}:{minute:02}"
+
+
+def equation_lines():
+    for degrees, printed in EQUATIONS_004:
+        ours, thirds = equation(degrees * DEGREE), sixties(printed)
+        yield f"004 at {degrees}: {ours} units printed {thirds} thirds apart {abs(ours - thirds * THIRD)} units"
+    anomalies = [q * QUARTER + o for q in range(-5, 6) for o in (-1, 0, 1)]
+    anomalies += [LEAST, LEAST + 1, GREATEST - 1, GREATEST]
+    anomalies += [k * SINE_STEP for k in range(541)]
+    anomalies += [i * 77_777_777_777 - 40_000_000_000_000 for i in range(2000)]
+    for anomaly in anomalies:
+        yield f"equation {anomaly}: {answer(equation, anomaly)}"
+
+
+def place_lines():
+    years = [-2001, -2000, -1999, -1000, -676, -1, 0, 1, 321, 1000, 1999, 2000, 2001]
+    days = [LEAST, -5, -4, -3, -1, 0, 1, *range(7, 360, 11), 369, 370, 371, GREATEST]
+    cases = [(n, day) for n in years for day in days]
+    cases += [(LEAST, 0), (GREATEST, 0), (GREATEST, 371)]
+    for n, day in cases:
+        mean, true, on = (answer(call, n, day) for call in (mean_place, true_place, run_on))
+        yield f"place {n} {day}: mean {mean} true {true} run-on {on}"
+
+
+def term_lines():
+    for n in EVERY_TWENTIETH_YEAR:
+        for k in range(24):
+            yield f"term {n} {k}: {term(n, k)}"  # a refusal here would be an error, and stops the program
+    refusals = [(-2001, 0), (2001, 23), (-2001, 24), (2001, 24), (0, 24), (0, 2**64 - 1), (-2000, 24), (2000, 24)]
+    for n, k in [*refusals, (LEAST, 0), (GREATEST, 24)]:
+        yield f"term {n} {k}: {answer(term, n, k)}"
+
+
+def local_line(day, minute, longitude):
+    return f"local {day} {minute} {longitude}: {answer(local, day, minute, longitude)}"
+
+
+def local_lines():
+    for number, (_, side, arc, clock) in enumerate(PLACES_002, 1):
+        longitude, printed = side * sixties(arc), side * sixties(clock)
+        yield f"002 {number}: longitude {longitude} clock {clock_seconds(longitude)} printed {printed}"
+        yield local_line(10, 0, longitude)
+        yield local_line(10, 1439, longitude)
+    longitudes = [0, 1, -1, 7, -7, 8, -8, 14, -14, 15, -15, 22, -22, 23, -23, 13_284, -12_795]
+    longitudes += [647_999, -647_999, 648_000, -648_000, 648_001, -648_001, LEAST, GREATEST]
+    for day in (-5, -4, 0, 369, 370, 371):
+        for minute in (0, 1, 719, 1439, 1440):
+            for longitude in longitudes:
+                yield local_line(day, minute, longitude)
+    for given, _ in MARKED_LOCAL_TIMES:
+        yield local_line(*given)
+
+
+EXPECTED_FILES = [
+    ("crates/show_tables/stdout", tables_lines),
+    ("crates/show_year/stdout", year_lines),
+    ("crates/show_equation/stdout", equation_lines),
+    ("crates/show_place/stdout", place_lines),
+    ("crates/show_terms/stdout", term_lines),
+    ("crates/show_local/stdout", local_lines),
+]
+
+
+def main(arguments):
+    if arguments not in ([], ["--check"]):
+        sys.exit(__doc__)
+    assert_table_rules()
+    assert_marked_table()
+    assert_compared_figures()
+    differing = []
+    for path, lines in EXPECTED_FILES:
+        file, expected = ROOT_FOLDER / path, "".join(line + "\n" for line in lines()).encode()
+        if not arguments:
+            file.parent.mkdir(parents=True, exist_ok=True)
+            file.write_bytes(expected)
+        elif not file.is_file() or file.read_bytes() != expected:
+            differing.append(path)
+    for path in differing:
+        print(f"differs: {path}")
+    sys.exit(1 if differing else 0)
+
+
+if __name__ == "__main__":
+    main(sys.argv[1:])
