@@ -1,4 +1,4 @@
-"""Reckons the expected outputs of the show_* programs from the scope document's rules alone.
+"""Reckons the expected outputs of the test programs from document 01's rules alone.
 
 It shares nothing with the Rattle sources: no code, no table. The sines and tangents are worked out here
 from their series, the numbers are Python's unbounded ones, and each rule is the document's own formula.
@@ -233,8 +233,8 @@ def local(day, minute, longitude):
 
 # Figures quoted from the sources.
 
-# Years, and days, hour and minute of source 003. It also prints seconds, 1, 16 and 16, which are not ours.
-SOLSTICES_003 = [(-600, (42, 8, 15)), (-633, (49, 8, 26)), (-585, (0, 23, 26))]
+# Years, and days, hour, minute and second of source 003.
+SOLSTICES_003 = [(-600, (42, 8, 15, 1)), (-633, (49, 8, 26, 16)), (-585, (0, 23, 26, 16))]
 
 # Degrees of anomaly, and the equation of source 004 in degrees, minutes, seconds and thirds.
 EQUATIONS_004 = [(30, (1, 2, 34, 18)), (90, (2, 3, 9, 40)), (140, (1, 18, 6, 53))]
@@ -298,7 +298,8 @@ def assert_marked_table():
 
 def assert_compared_figures():
     for n, printed in SOLSTICES_003:
-        assert (day_name(n), *clock_of_solstice(n)[:2]) == printed
+        ours = (day_name(n), *clock_of_solstice(n))
+        assert ours[:3] == printed[:3] and ours[3] != printed[3]  # days and minutes agree, seconds do not
     for degrees, printed in EQUATIONS_004:
         assert abs(equation(degrees * DEGREE) - sixties(printed) * THIRD) < 3 * THIRD
     for _, side, arc, clock in PLACES_002:
@@ -308,7 +309,7 @@ def assert_compared_figures():
         assert (day_name(n), *clock_of_solstice(n)[:2], mansion(n)) == sample
 
 
-# The expected files, one function each, line by line.
+# The parts of the expected files, line by line.
 
 
 def tables_lines():
@@ -330,9 +331,9 @@ def year_lines():
     years += [-1999, -676, -633, -600, -585, -2, -1, 1, 2, 1999]
     for n in years:
         yield f"year {n}: {answer(year_values, n)}"
-    for n, (days, hour, minute) in SOLSTICES_003:
-        ours = "{}:{:02}:{:02}".format(*clock_of_solstice(n))
-        yield f"003 {n}: days {day_name(n)} {ours} printed {days} {hour}:{minute:02}"
+    for n, printed in SOLSTICES_003:
+        ours = "{} {}:{:02}:{:02}".format(day_name(n), *clock_of_solstice(n))
+        yield f"003 {n}: days {ours} printed {'{} {}:{:02}:{:02}'.format(*printed)}"
 
 
 def equation_lines():
@@ -386,13 +387,9 @@ def local_lines():
         yield local_line(*given)
 
 
+# Each program's expected output, and the parts that it prints in order.
 EXPECTED_FILES = [
-    ("crates/show_tables/stdout", tables_lines),
-    ("crates/show_year/stdout", year_lines),
-    ("crates/show_equation/stdout", equation_lines),
-    ("crates/show_place/stdout", place_lines),
-    ("crates/show_terms/stdout", term_lines),
-    ("crates/show_local/stdout", local_lines),
+    ("crates/compared/stdout", [tables_lines, year_lines, equation_lines, place_lines]),
 ]
 
 
@@ -403,8 +400,8 @@ def main(arguments):
     assert_marked_table()
     assert_compared_figures()
     differing = []
-    for path, lines in EXPECTED_FILES:
-        file, expected = ROOT_FOLDER / path, "".join(line + "\n" for line in lines()).encode()
+    for path, parts in EXPECTED_FILES:
+        file, expected = ROOT_FOLDER / path, "".join(line + "\n" for part in parts for line in part()).encode()
         if not arguments:
             file.parent.mkdir(parents=True, exist_ok=True)
             file.write_bytes(expected)

@@ -1,15 +1,15 @@
 -- The angle of a tangent: which minute is the last not above it, and how large the angle can be. Assumes nothing.
-use mathlib.Core.Path.{_≡_, refl, ap, sym, subst, _∙_}
-use mathlib.Core.Bool.{Bool, true, false, cond}
+use mathlib.Core.Path.{_≡_, refl, ap}
 use Prim.Native.Nat.{ℕ, zero, suc, _+_, _*_, _-_, _/_, _≤_, _<_}
 use native.Mathlib.Decide.{decLe, decLt}
-use native.Mathlib.Nat.{div-lt-iff-lt-mul, div-zero, mul-le-mul-right}
+use native.Mathlib.Nat.{div-lt-iff-lt-mul, div-zero}
 use native.Mathlib.Omega.{arith}
-use lib.Dec.{leb}
 use Rattle.tables.specs.Entry.{lastTangent, tangentEntry}
 use Rattle.tables.proofs.Rules.{tangent-first, tangent-step, tangent-run, tangent-range, tangent-past}
+use Rattle.law.specs.Answer.{Answer, value, refused}
 use Rattle.law.specs.Document.{minute, lastMinute, anglePast, angle}
-use Rattle.law.proofs.Choice.{le-yes, le-no}
+use Rattle.law.specs.Working.{angleAnswer}
+use Rattle.law.proofs.Choice.{lt-yes, lt-no, le-yes, le-no}
 
 -- m is the last minute up to n whose entry is not above t
 pub record Last (t n m : ℕ) : Type 0 where
@@ -110,3 +110,23 @@ seat t h =
         go : Dec (q + 1 < lastTangent) → (q + 1 < lastTangent) × (t < tangentEntry (q + 2))
         go (yes i) = (i, omega (arith, tangent-range (q + 2) (omega arith)))
         go (no i) = let j : q + 1 ≡ lastTangent = omega arith in absurd (omega (arith, ap tangentEntry j))
+
+-- ---- the angle as an answer
+
+pub angle-refused : (t : ℕ) → tangentEntry lastTangent < t → refused 5 ≡ angleAnswer t
+unfolding angleAnswer
+angle-refused t h = rw (lt-yes h) refl
+
+pub angle-last : (t : ℕ) → t ≡ tangentEntry lastTangent → value (lastTangent * minute) ≡ angleAnswer t
+unfolding angleAnswer
+angle-last t e =
+    let h : t ≤ tangentEntry lastTangent = omega arith in
+    rw (lt-no h, angle-end t (omega arith)) refl
+
+pub angle-inside : (t m below above : ℕ) → m < lastTangent → below ≡ tangentEntry m → above ≡ tangentEntry (m + 1) → below ≤ t → t < above
+    → value (m * minute + (t - below) * minute / (above - below)) ≡ angleAnswer t
+unfolding angleAnswer anglePast
+angle-inside t m below above l p q h g =
+    let e : m + 1 + (lastTangent - (m + 1)) ≡ lastTangent = omega arith in
+    let i : t ≤ tangentEntry lastTangent = omega (arith, tangent-run (lastTangent - (m + 1)) (m + 1) (omega arith), ap tangentEntry e) in
+    rw (lt-no i, angle-at t m l (omega arith) (omega arith), p, q) refl

@@ -10,7 +10,7 @@ use lib.IntN.{ℤ, pos, negℤ, _+ℤ_, _-ℤ_, _*ℤ_}
 use Rattle.tables.specs.Entry.{lastTangent}
 use Rattle.law.specs.Round.{halfUp, floorDiv, floorMod}
 use Rattle.law.specs.Document.{circle, half, quarter, minute, day, yearLength, dailyMotion, perigeeYearly, perigeeDaily, perigeeEpoch, dayEpoch, mansionEpoch, radius, solstice, dayName, fraction, mansion, root, meanPlace, perigee, inCircle, anomaly, mirrored, folded, sine, cosine, height, base, longSide, tangent, angle, equation, runOnPlace}
-use Rattle.law.specs.Working.{liftDays, solsticeOf, rootFrom, rootOf, heightOf, baseOf, nearOf, farOf, tangentOf, added, taken, gain, anomalyOf, headroom, lift, placeOf}
+use Rattle.law.specs.Working.{liftDays, solsticeOf, rootFrom, rootOf, heightOf, baseOf, nearOf, farOf, tangentOf, angleAnswer, sizeAnswer, added, taken, gain, anomalyOf, headroom, lift, placeOf}
 use Rattle.law.proofs.Choice.{lt-yes, lt-no, le-yes, le-no}
 use Rattle.law.proofs.Whole.{Is, is-pos, is-neg, is-add, is-minus, is-times}
 use Rattle.law.proofs.Floor.{div-is, mod-is, floor-less}
@@ -36,6 +36,27 @@ tangent-is e a = go (mirrored a) (leb (mirrored a) quarter)
         (halfUp (2 * halfUp (e * sine (half - u)) radius * radius) (radius + halfUp (e * cosine (half - u)) radius))
     go u true = refl
     go u false = refl
+
+-- from a height h and a base b that are those of the arc
+pub tangent-near : (e u h b : ℕ) → u ≤ quarter → h ≡ heightOf e u → b ≡ baseOf e u → halfUp (2 * h * radius) (radius - b) ≡ tangentOf e u
+unfolding tangentOf nearOf
+tangent-near e u h b l p q = rw (le-yes l, p, q) refl
+
+pub tangent-far : (e u h b : ℕ) → quarter < u → h ≡ heightOf e (half - u) → b ≡ baseOf e (half - u)
+    → halfUp (2 * h * radius) (radius + b) ≡ tangentOf e u
+unfolding tangentOf farOf
+tangent-far e u h b l p q = rw (le-no l, p, q) refl
+
+-- the size at an anomaly in the circle is the angle of the tangent at its arc
+size-from : (e a t : ℕ) → t ≡ tangentOf e (mirrored a) → angleAnswer t ≡ sizeAnswer e a
+unfolding sizeAnswer angleAnswer
+size-from e a t h = ap angleAnswer (h ∙ sym (tangent-is e a))
+
+pub size-low : (e a t : ℕ) → a ≤ half → t ≡ tangentOf e a → angleAnswer t ≡ sizeAnswer e a
+size-low e a t l h = size-from e a t (h ∙ ap (tangentOf e) (sym (mirrored-low a l)))
+
+pub size-high : (e a t : ℕ) → half < a → t ≡ tangentOf e (circle - a) → angleAnswer t ≡ sizeAnswer e a
+size-high e a t l h = size-from e a t (h ∙ ap (tangentOf e) (sym (mirrored-high a l)))
 
 -- the signed equation is what is added less what is taken away, and neither is above 130′
 pub equation-is : (e a : ℕ) → Is (equation e a) (added e a) (taken e a)
@@ -99,11 +120,7 @@ module _ {N : ℤ} {y : ℕ} (h : Is N y 2_000) where
     unfolding runOnPlace placeOf
     run-on-is e l = rw (anomaly-is l) (omega (arith, is-add mean-is (equation-is e (anomalyOf y j)), sides-le e (anomalyOf y j)))
 
-    -- the public places
+    -- the public mean place
     pub mean-in-circle : inCircle (meanPlace N d) ≡ (rootOf y + j * dailyMotion + (circle - 4 * dailyMotion)) % circle
     unfolding inCircle
     mean-in-circle = mod-is 1 circle (omega arith) (omega (arith, mean-is))
-
-    pub true-in-circle : (e : ℕ) → y ≤ 4_000 → inCircle (runOnPlace e N d) ≡ (placeOf e y j + (circle - lift)) % circle
-    unfolding inCircle
-    true-in-circle e l = mod-is 1 circle (omega arith) (omega (arith, run-on-is e l))

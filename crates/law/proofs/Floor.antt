@@ -5,6 +5,7 @@ use native.Mathlib.Nat.{add-mul, add-mul-div-right, add-mul-mod-self-right, div-
 use native.Mathlib.Omega.{arith}
 use lib.IntN.{ℤ, pos, negsuc, _+ℤ_, _*ℤ_}
 use Rattle.law.specs.Round.{floorDiv, floorMod}
+use Rattle.law.specs.Document.{circle, inCircle}
 use Rattle.law.proofs.Whole.{Is, up, down, is-pos, is-neg, is-own, is-add, is-times, same}
 
 pub div-is : {z : ℤ} {a : ℕ} (q d : ℕ) → 0 < d → Is z a (q * d) → Is (floorDiv z d) (a / d) q
@@ -52,3 +53,16 @@ floor-unique z q d r h e =
       same (div-is (down q) d g p) (is-own q) (omega arith),
       mod-is (down q) d g p ∙ add-mul-mod-self-right r (up q) d ∙ mod-eq-of-lt h,
     )
+
+-- ---- brought into the circle, by the size of the number
+
+pub in-circle-from-0 : (z : ℤ) (size : ℕ) → z ≡ pos size → size % circle ≡ inCircle z
+unfolding inCircle floorMod
+in-circle-from-0 z size e = ap inCircle (sym e)
+
+pub in-circle-below-0 : (z : ℤ) (n size : ℕ) → z ≡ negsuc n → size ≡ suc n → circle - 1 - (size - 1) % circle ≡ inCircle z
+unfolding inCircle floorMod
+in-circle-below-0 z n size e h =
+    let i : size - 1 ≡ n = omega arith in
+    let j : circle - 1 - (size - 1) % circle ≡ inCircle (negsuc n) = rw i (omega arith) in
+    j ∙ ap inCircle (sym e)

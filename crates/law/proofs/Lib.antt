@@ -6,3 +6,8 @@ pub mod Floor
 pub mod Angles
 pub mod Bridge
 pub mod Clock
+pub mod Sines
+pub mod Root
+pub mod Equations
+pub mod Edges
+pub mod Places

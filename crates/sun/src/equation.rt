@@ -9,10 +9,9 @@ use units::Number;
 use units::Refusal;
 use units::Signed;
 ghost use mathlib.Core.Path.{_≡_};
-ghost use Prim.Native.Nat.{_+_, _*_, _≤_, _<_, _^_};
-ghost use lib.IntN.{ℤ};
+ghost use Prim.Native.Nat.{_+_, _*_, _-_, _/_, _≤_, _<_, _^_};
 ghost use Rattle.law.specs.Round.{halfUp};
-ghost use Rattle.law.specs.Document.{quarter, half, circle, inCircle, sine, angle, epicycles, mirrored, equationAnswer};
+ghost use Rattle.law.specs.Document.{minute, quarter, half, circle, inCircle, sine, epicycles, equationAnswer};
 ghost use Rattle.law.specs.Working.{heightOf, baseOf, tangentOf, angleAnswer, sizeAnswer};
 ghost use Rattle.units.specs.Said.{saidNumber, saidSigned};
 ghost use Rattle.sun.specs.Said.{numberUpTo};
@@ -31,11 +30,11 @@ pub(crate) fn half_up(n: u64, d: u64) -> u64
 fn in_circle(z: i64) -> u64
     ensures { λ r. ⌜ (r ≡ inCircle z) × (r < circle) ⌝ }
 {
+    let size = units::size(z);
     if z < 0 {
-        let below = (-(z + 1)) as u64;
-        return CIRCLE - 1 - below % CIRCLE;
+        return CIRCLE - 1 - (size - 1) % CIRCLE;
     }
-    (z as u64) % CIRCLE
+    size % CIRCLE
 }
 
 // The sine of an arc up to a quarter circle.
@@ -70,7 +69,7 @@ fn base(x: u64) -> u64
 // Steps 2 and 3: the arc from the perigee, up to a half circle.
 fn tangent(u: u64) -> u64
     requires { ⌜ u ≤ half ⌝ }
-    ensures { λ r. ⌜ (r ≡ tangentOf epicycles u) × (r < 2 ^ 60) ⌝ }
+    ensures { λ r. ⌜ r ≡ tangentOf epicycles u ⌝ }
 {
     if u <= QUARTER {
         return half_up(2 * height(u) * RADIUS, RADIUS - base(u));
@@ -102,7 +101,7 @@ fn angle_of(t: u64) -> Number
 // The minute m and the proportional part of it, between the entries below and above t.
 fn part(t: u64, m: usize, below: u64, above: u64) -> u64
     requires { ⌜ (m < 130) × (below ≤ t) × (t < above) × (above < 2 ^ 30) ⌝ }
-    ensures { λ r. ⌜ r ≤ 468_000_000_000 ⌝ }
+    ensures { λ r. ⌜ (r ≡ m * minute + (t - below) * minute / (above - below)) × (r ≤ 468_000_000_000) ⌝ }
 {
     (m as u64) * MINUTE + (t - below) * MINUTE / (above - below)
 }

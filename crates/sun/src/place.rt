@@ -6,17 +6,16 @@ use crate::constants::PERIGEE_DAILY;
 use crate::constants::PERIGEE_EPOCH;
 use crate::constants::PERIGEE_YEARLY;
 use crate::equation::size_at;
-use crate::year::root;
-use crate::year::solstice;
+use crate::year::root_of;
 use units::Number;
 use units::Refusal;
 use units::Signed;
 ghost use mathlib.Core.Path.{_≡_};
 ghost use Prim.Native.Nat.{_≤_, _<_};
 ghost use Rattle.law.specs.Document.{circle, epicycles, meanAnswer, trueAnswer, runOnAnswer};
-ghost use Rattle.law.specs.Working.{solsticeOf, rootOf, anomalyOf, placeAnswer};
+ghost use Rattle.law.specs.Working.{rootOf, anomalyOf, placeAnswer, midnightAnswer, liftedAnswer};
 ghost use Rattle.units.specs.Said.{saidNumber, saidSigned};
-ghost use Rattle.sun.specs.Said.{numberUpTo};
+ghost use Rattle.sun.specs.Said.{saidMidnight, numberUpTo};
 
 // What the anomaly gains in a day.
 const GAIN: u64 = DAILY - PERIGEE_DAILY;
@@ -24,23 +23,30 @@ const GAIN: u64 = DAILY - PERIGEE_DAILY;
 // A circle and 2,000 years of the perigee more than document 01's anomaly has of its own, so that none is below 0.
 const ANOMALY_LIFT: u64 = CIRCLE + 2_000 * PERIGEE_YEARLY - PERIGEE_EPOCH - 4 * GAIN;
 
-// A run-on place is lifted by four days and more than any equation, so that none is below 0.
-const LIFT: u64 = 1_000_000_000_000 + 4 * DAILY;
+// A run-on place is lifted by four days, and by more than any equation takes away, so that none is below 0.
+const HEADROOM: u64 = 1_000_000_000_000;
+
+const LIFT: u64 = HEADROOM + 4 * DAILY;
+
+// What is added so that a lifted place is a circle above the document's, and a mean place too.
+const BACK: u64 = CIRCLE - LIFT;
+
+const MEAN_BACK: u64 = CIRCLE - 4 * DAILY;
 
 fn anomaly(y: u64, root: u64, j: u64) -> u64
-    requires { ⌜ (y ≤ 4_000) × (root ≤ 212_899_831_014) × (j ≤ 374) ⌝ }
-    ensures { λ r. ⌜ (r ≡ anomalyOf y root j) × (r < circle) ⌝ }
+    requires { ⌜ (y ≤ 4_000) × (root ≡ rootOf y) × (j ≤ 374) ⌝ }
+    ensures { λ r. ⌜ (r ≡ anomalyOf y j) × (r < circle) ⌝ }
 {
     (root + (ANOMALY_LIFT - y * PERIGEE_YEARLY) + j * GAIN) % CIRCLE
 }
 
 // The run-on place, lifted.
 pub(crate) fn lifted_place(y: u64, root: u64, j: u64) -> Number
-    requires { ⌜ (y ≤ 4_000) × (root ≤ 212_899_831_014) × (j ≤ 374) ⌝ }
-    ensures { λ r. ⌜ (saidNumber r ≡ placeAnswer epicycles y root j) × numberUpTo 90_000_000_000_000 r ⌝ }
+    requires { ⌜ (y ≤ 4_000) × (root ≡ rootOf y) × (j ≤ 374) ⌝ }
+    ensures { λ r. ⌜ (saidNumber r ≡ placeAnswer epicycles y j) × numberUpTo 90_000_000_000_000 r ⌝ }
 {
     let a = anomaly(y, root, j);
-    let mean = root + (LIFT - 4 * DAILY) + j * DAILY;
+    let mean = root + HEADROOM + j * DAILY;
     match size_at(a) {
         Number::Is(size) => {
             if a < HALF {
@@ -53,31 +59,50 @@ pub(crate) fn lifted_place(y: u64, root: u64, j: u64) -> Number
     }
 }
 
+// A year and a day, each counted from the least allowed on.
+pub enum Midnight {
+    Is(u64, u64),
+    Refused(Refusal),
+}
+
+fn midnight_at(n: i64, d: i64) -> Midnight
+    ensures { λ r. ⌜ saidMidnight r ≡ midnightAnswer n d ⌝ }
+{
+    let Number::Is(y) = units::year_index(n) else {
+        return Midnight::Refused(Refusal::YearOutside);
+    };
+    let Number::Is(j) = units::day_index(d) else {
+        return Midnight::Refused(Refusal::DayOrMinuteOutside);
+    };
+    Midnight::Is(y, j)
+}
+
+// The run-on place at the day d of the year n, lifted.
+fn lifted_at(n: i64, d: i64) -> Number
+    ensures { λ r. ⌜ (saidNumber r ≡ liftedAnswer epicycles n d) × numberUpTo 90_000_000_000_000 r ⌝ }
+{
+    match midnight_at(n, d) {
+        Midnight::Is(y, j) => lifted_place(y, root_of(y), j),
+        Midnight::Refused(refusal) => Number::Refused(refusal),
+    }
+}
+
 // Root + d daily motions, brought into the circle.
 pub fn mean_place(n: i64, d: i64) -> Number
     ensures { λ r. ⌜ saidNumber r ≡ meanAnswer n d ⌝ }
 {
-    let Number::Is(y) = units::year_index(n) else {
-        return Number::Refused(Refusal::YearOutside);
-    };
-    let Number::Is(j) = units::day_index(d) else {
-        return Number::Refused(Refusal::DayOrMinuteOutside);
-    };
-    Number::Is((root(solstice(y)) + j * DAILY + (CIRCLE - 4 * DAILY)) % CIRCLE)
+    match midnight_at(n, d) {
+        Midnight::Is(y, j) => Number::Is((root_of(y) + j * DAILY + MEAN_BACK) % CIRCLE),
+        Midnight::Refused(refusal) => Number::Refused(refusal),
+    }
 }
 
 // Mean place plus equation, brought into the circle.
 pub fn true_place(n: i64, d: i64) -> Number
     ensures { λ r. ⌜ saidNumber r ≡ trueAnswer epicycles n d ⌝ }
 {
-    let Number::Is(y) = units::year_index(n) else {
-        return Number::Refused(Refusal::YearOutside);
-    };
-    let Number::Is(j) = units::day_index(d) else {
-        return Number::Refused(Refusal::DayOrMinuteOutside);
-    };
-    match lifted_place(y, root(solstice(y)), j) {
-        Number::Is(p) => Number::Is((p + (CIRCLE - LIFT)) % CIRCLE),
+    match lifted_at(n, d) {
+        Number::Is(place) => Number::Is((place + BACK) % CIRCLE),
         Number::Refused(refusal) => Number::Refused(refusal),
     }
 }
@@ -86,14 +111,8 @@ pub fn true_place(n: i64, d: i64) -> Number
 pub fn run_on_place(n: i64, d: i64) -> Signed
     ensures { λ r. ⌜ saidSigned r ≡ runOnAnswer epicycles n d ⌝ }
 {
-    let Number::Is(y) = units::year_index(n) else {
-        return Signed::Refused(Refusal::YearOutside);
-    };
-    let Number::Is(j) = units::day_index(d) else {
-        return Signed::Refused(Refusal::DayOrMinuteOutside);
-    };
-    match lifted_place(y, root(solstice(y)), j) {
-        Number::Is(p) => Signed::Is((p as i64) - (LIFT as i64)),
+    match lifted_at(n, d) {
+        Number::Is(place) => Signed::Is((place as i64) - (LIFT as i64)),
         Number::Refused(refusal) => Signed::Refused(refusal),
     }
 }

@@ -7,9 +7,9 @@ use crate::equation::half_up;
 use units::Number;
 use units::Refusal;
 ghost use mathlib.Core.Path.{_≡_};
-ghost use Prim.Native.Nat.{_≤_, _<_};
+ghost use Prim.Native.Nat.{_≤_};
 ghost use Rattle.law.specs.Document.{yearAnswer};
-ghost use Rattle.law.specs.Working.{solsticeOf, rootOf};
+ghost use Rattle.law.specs.Working.{solsticeOf, rootFrom, rootOf};
 ghost use Rattle.sun.specs.Said.{saidYear};
 
 pub struct Year {
@@ -28,7 +28,7 @@ pub enum YearAnswer {
 const LIFTED_EPOCH: u64 = DAY_EPOCH + (730_800 * DAY - 2_000 * YEAR);
 
 // The mean solstice, 730,800 days more than document 01 counts.
-pub(crate) fn solstice(y: u64) -> u64
+fn solstice(y: u64) -> u64
     requires { ⌜ y ≤ 4_000 ⌝ }
     ensures { λ r. ⌜ r ≡ solsticeOf y ⌝ }
 {
@@ -36,11 +36,18 @@ pub(crate) fn solstice(y: u64) -> u64
 }
 
 // Of the solstice, lifted. The daily motion is split at a thousand million, so that no product passes 64 bits.
-pub(crate) fn root(solstice: u64) -> u64
-    ensures { λ r. ⌜ (r ≡ rootOf solstice) × (r ≤ 212_899_831_014) ⌝ }
+fn root(solstice: u64) -> u64
+    ensures { λ r. ⌜ (r ≡ rootFrom solstice) × (r ≤ 212_899_831_014) ⌝ }
 {
     let rest = DAY - solstice % DAY;
     rest * (DAILY / DAY) + half_up(rest * (DAILY % DAY), DAY)
+}
+
+pub(crate) fn root_of(y: u64) -> u64
+    requires { ⌜ y ≤ 4_000 ⌝ }
+    ensures { λ r. ⌜ (r ≡ rootOf y) × (r ≤ 212_899_831_014) ⌝ }
+{
+    root(solstice(y))
 }
 
 pub fn year_of(n: i64) -> YearAnswer

@@ -1,0 +1,88 @@
+-- The places as answers, from their working forms: what the code has worked out is what the document answers. Assumes nothing.
+use mathlib.Core.Path.{_≡_, refl, ap, _∙_}
+use Prim.Native.Nat.{ℕ, _+_, _*_, _-_, _%_, _≤_, _<_}
+use native.Mathlib.Omega.{arith}
+use lib.IntN.{ℤ, pos, natAbs, _+ℤ_}
+use Rattle.law.specs.Round.{floorMod}
+use Rattle.law.specs.Answer.{Answer, value, refused}
+use Rattle.law.specs.Document.{circle, half, dailyMotion, inCircle, anomaly, tangent, angle, runOnPlace, badYear, badDay, offTable, meanAnswer, trueAnswer, runOnAnswer}
+use Rattle.law.specs.Working.{rootOf, sizeAnswer, added, taken, anomalyOf, headroom, lift, placeOf, placeAnswer, liftedAnswer}
+use Rattle.law.proofs.Choice.{lt-yes, lt-no}
+use Rattle.law.proofs.Answers.{passed, stopped, PassedAll, passed-all, passed-on}
+use Rattle.law.proofs.Whole.{Is, is-pos, is-add, is-abs, same}
+use Rattle.law.proofs.Floor.{mod-is}
+use Rattle.law.proofs.Edges.{Inside, inside}
+use Rattle.law.proofs.Bridge.{anomaly-is, run-on-is, mean-in-circle}
+
+-- ---- the lifted place, from the size at the anomaly a; `size` is a size there, or the number of a refusal
+
+module _ (e y j a size : ℕ) (h : a ≡ anomalyOf y j) where
+  pub place-added : value size ≡ sizeAnswer e a → a < half → value (rootOf y + headroom + j * dailyMotion + size) ≡ placeAnswer e y j
+  unfolding sizeAnswer placeAnswer placeOf added taken
+  place-added s l =
+      let p = passed (offTable e a) 5 (angle (tangent e a)) s in
+      rw (← h, p .test, lt-yes l, p .is) (ap value (omega arith))
+
+  pub place-taken : value size ≡ sizeAnswer e a → half ≤ a → value (rootOf y + headroom + j * dailyMotion - size) ≡ placeAnswer e y j
+  unfolding sizeAnswer placeAnswer placeOf added taken
+  place-taken s l =
+      let p = passed (offTable e a) 5 (angle (tangent e a)) s in
+      rw (← h, p .test, lt-no l, p .is) (ap value (omega arith))
+
+  pub place-refused : refused size ≡ sizeAnswer e a → refused size ≡ placeAnswer e y j
+  unfolding sizeAnswer placeAnswer
+  place-refused s =
+      let p = stopped (offTable e a) 5 (angle (tangent e a)) s in
+      rw (← h, p .test, p .is) refl
+
+-- ---- the document's answers, for a year and a day in range
+
+module _ (N d : ℤ) {y j : ℕ} (n : Inside 2_000 2_000 N y) (m : Inside 4 370 d j) where
+  pub mean-value : value ((rootOf y + j * dailyMotion + (circle - 4 * dailyMotion)) % circle) ≡ meanAnswer N d
+  unfolding meanAnswer
+  mean-value = rw (n .test, m .test, mean-in-circle (n .is) (m .is)) refl
+
+  pub lifted-place : (e : ℕ) → placeAnswer e y j ≡ liftedAnswer e N d
+  unfolding placeAnswer liftedAnswer
+  lifted-place e =
+      let p : Is (runOnPlace e N d +ℤ pos lift) (placeOf e y j) 0 = omega (arith, is-add (run-on-is (n .is) (m .is) e (n .most)) (is-pos lift)) in
+      let i : natAbs (runOnPlace e N d +ℤ pos lift) ≡ placeOf e y j = is-abs p (omega arith) ∙ omega arith in
+      rw (n .test, m .test, anomaly-is (n .is) (m .is) (n .most), i) refl
+
+-- from the lifted place to the two that are public
+module _ (e : ℕ) (N d : ℤ) (p : ℕ) where
+  lifted : value p ≡ liftedAnswer e N d → PassedAll (badYear N) (badDay d) (offTable e (anomaly N d)) p (natAbs (runOnPlace e N d +ℤ pos lift))
+  unfolding liftedAnswer
+  lifted s = passed-all 1 2 5 (natAbs (runOnPlace e N d +ℤ pos lift)) (badYear N) (badDay d) (offTable e (anomaly N d)) s
+
+  lifted-is : value p ≡ liftedAnswer e N d → Is (runOnPlace e N d) p lift
+  lifted-is s =
+      let w = lifted s in
+      let n = inside 2_000 2_000 N (natAbs (N +ℤ pos 2_000)) (w .first) refl in
+      let m = inside 4 370 d (natAbs (d +ℤ pos 4)) (w .second) refl in
+      let i = run-on-is (n .is) (m .is) e (n .most) in
+      let a = is-add i (is-pos lift) in
+      omega (arith, is-abs a (omega arith), w .is)
+
+  pub true-value : value p ≡ liftedAnswer e N d → value ((p + (circle - lift)) % circle) ≡ trueAnswer e N d
+  unfolding trueAnswer inCircle
+  true-value s =
+      let w = lifted s in
+      let i : floorMod (runOnPlace e N d) circle ≡ (p + (circle - lift)) % circle = mod-is 1 circle (omega arith) (omega (arith, lifted-is s)) in
+      rw (w .first, w .second, w .third, i) refl
+
+  pub run-on-value : (z : ℤ) → value p ≡ liftedAnswer e N d → Is z p lift → value z ≡ runOnAnswer e N d
+  unfolding runOnAnswer
+  run-on-value z s r =
+      let w = lifted s in
+      rw (w .first, w .second, w .third) (ap value (same r (lifted-is s) (omega arith)))
+
+  pub true-refused : refused p ≡ liftedAnswer e N d → refused p ≡ trueAnswer e N d
+  unfolding liftedAnswer trueAnswer
+  true-refused s =
+      passed-on 1 2 5 (natAbs (runOnPlace e N d +ℤ pos lift)) (inCircle (runOnPlace e N d)) (badYear N) (badDay d) (offTable e (anomaly N d)) s
+
+  pub run-on-refused : refused p ≡ liftedAnswer e N d → refused p ≡ runOnAnswer e N d
+  unfolding liftedAnswer runOnAnswer
+  run-on-refused s =
+      passed-on 1 2 5 (natAbs (runOnPlace e N d +ℤ pos lift)) (runOnPlace e N d) (badYear N) (badDay d) (offTable e (anomaly N d)) s

@@ -1,0 +1,19 @@
+-- The root without a product past 64 bits: the daily motion is split at a thousand million. Assumes nothing.
+use mathlib.Core.Path.{_≡_}
+use Prim.Native.Nat.{ℕ, _+_, _*_, _-_, _/_, _%_, _≤_}
+use native.Mathlib.Omega.{arith}
+use Rattle.law.specs.Round.{halfUp}
+use Rattle.law.specs.Document.{day, dailyMotion}
+use Rattle.law.specs.Working.{rootFrom}
+
+split : (g : ℕ) → halfUp (g * dailyMotion) day ≡ g * (dailyMotion / day) + halfUp (g * (dailyMotion % day)) day
+unfolding halfUp
+split g = omega arith
+
+pub root-split : (s : ℕ) → rootFrom s ≡ (day - s % day) * (dailyMotion / day) + halfUp ((day - s % day) * (dailyMotion % day)) day
+unfolding rootFrom
+root-split s = split (day - s % day)
+
+pub root-le : (s : ℕ) → rootFrom s ≤ dailyMotion
+unfolding rootFrom halfUp
+root-le s = omega arith

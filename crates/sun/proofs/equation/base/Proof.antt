@@ -1,0 +1,33 @@
+-- The base is the definition's, and at most the epicycles' difference. Assumes nothing.
+use mathlib.Core.Path.{_≡_, ap, _∙_}
+use Prim.Native.Nat.{_*_}
+use native.Mathlib.Omega.{arith}
+use borrow.Author.Needs.{needs}
+use Rattle.law.specs.Round.{halfUp}
+use Rattle.law.specs.Document.{radius, epicycles, cosine}
+use Rattle.law.specs.Working.{baseOf}
+use Rattle.law.proofs.Sines.{base-le}
+use Rattle.sun.proofs.equation.base.Statement.{statement}
+use Rattle.sun.proofs.equation.base.Tie as tie
+
+sub-sine-of : tie.Need-sub-sine-of
+sub-sine-of c = search needs
+
+sine-of-requires : tie.Need-sine-of-requires
+sine-of-requires c κs = search needs
+
+mul-half-up : tie.Need-mul-half-up
+mul-half-up c = search needs
+
+half-up-requires : tie.Need-half-up-requires
+half-up-requires c κs = search needs
+
+is : (c : tie.After-half-up) → c .half-up .result ≡ baseOf epicycles (c .before .before .args .x)
+unfolding baseOf cosine
+is c = c .half-up .ensures ∙ ap (λ s. halfUp (epicycles * s) radius) (c .before .sine-of .ensures .0)
+
+returns : tie.Need-returns
+returns c = (is c, omega (arith, is c, base-le epicycles (omega arith) (c .before .before .args .x) (search needs)))
+
+pub base-spec : {M : Type 1} → statement M
+base-spec = tie.close (tie.spec sub-sine-of sine-of-requires mul-half-up half-up-requires returns)

@@ -1,0 +1,30 @@
+-- The height is the definition's, and at most the epicycles' difference. Assumes nothing.
+use mathlib.Core.Path.{_≡_, ap, _∙_}
+use Prim.Native.Nat.{_*_}
+use native.Mathlib.Omega.{arith}
+use borrow.Author.Needs.{needs}
+use Rattle.law.specs.Round.{halfUp}
+use Rattle.law.specs.Document.{radius, epicycles}
+use Rattle.law.specs.Working.{heightOf}
+use Rattle.law.proofs.Sines.{height-le}
+use Rattle.sun.proofs.equation.height.Statement.{statement}
+use Rattle.sun.proofs.equation.height.Tie as tie
+
+sine-of-requires : tie.Need-sine-of-requires
+sine-of-requires c κs = search needs
+
+mul-half-up : tie.Need-mul-half-up
+mul-half-up c = search needs
+
+half-up-requires : tie.Need-half-up-requires
+half-up-requires c κs = search needs
+
+is : (c : tie.After-half-up) → c .half-up .result ≡ heightOf epicycles (c .before .before .args .x)
+unfolding heightOf
+is c = c .half-up .ensures ∙ ap (λ s. halfUp (epicycles * s) radius) (c .before .sine-of .ensures .0)
+
+returns : tie.Need-returns
+returns c = (is c, omega (arith, is c, height-le epicycles (omega arith) (c .before .before .args .x) (search needs)))
+
+pub height-spec : {M : Type 1} → statement M
+height-spec = tie.close (tie.spec sine-of-requires mul-half-up half-up-requires returns)

@@ -1,0 +1,36 @@
+-- The lifted anomaly, brought into the circle, is the definition's. Assumes nothing.
+use mathlib.Core.Path.{_≡_, refl, ap}
+use Prim.Native.Nat.{ℕ, _+_, _*_, _-_, _%_, _≤_}
+use native.Mathlib.Omega.{arith}
+use borrow.Author.Needs.{needs}
+use Rattle.law.specs.Document.{circle, dailyMotion}
+use Rattle.law.specs.Working.{rootOf, solsticeOf, anomalyOf}
+use Rattle.law.proofs.Root.{root-le}
+use Rattle.sun.proofs.place.anomaly.Statement.{statement}
+use Rattle.sun.proofs.place.anomaly.Tie as tie
+
+small : (c : tie.Start) → c .args .root ≤ dailyMotion
+unfolding rootOf
+small c = omega (arith, c .pre, root-le (solsticeOf (c .args .y)))
+
+mul-result : tie.Need-mul-result
+mul-result c = search needs
+
+sub-result : tie.Need-sub-result
+sub-result c = search needs
+
+add-result : tie.Need-add-result
+add-result c = let l = small c in search needs
+
+mul-result-2 : tie.Need-mul-result-2
+mul-result-2 c = search needs
+
+add-result-2 : tie.Need-add-result-2
+add-result-2 c = let l = small c in search needs
+
+returns : tie.Need-returns
+unfolding anomalyOf
+returns c = (rw (c .pre .1) refl, omega arith)
+
+pub anomaly-spec : {M : Type 1} → statement M
+anomaly-spec = tie.close (tie.spec mul-result sub-result add-result mul-result-2 add-result-2 returns)

@@ -1,0 +1,69 @@
+-- The lifted place at a midnight in range; a refusal of its year or day is passed on. Assumes nothing.
+use mathlib.Core.Path.{_≡_, ap, ap₂, _∙_, subst}
+use mir.Facts.{toZ-ofZ}
+use borrow.Author.Needs.{needs}
+use Rattle.law.specs.Answer.{Answer, value, refused, refusing}
+use Rattle.law.specs.Document.{epicycles, anomaly, runOnPlace, badYear, badDay, offTable}
+use lib.IntN.{pos, natAbs, _+ℤ_}
+use Rattle.law.specs.Working.{lift, midnightAnswer, liftedAnswer}
+use Rattle.law.proofs.Edges.{Inside, midnight-in, midnight-out}
+use Rattle.law.proofs.Places.{lifted-place}
+use Rattle.units.specs.Said.{numberOf}
+use Rattle.sun.specs.Said.{saidMidnight}
+use Rattle.sun.proofs.place.lifted_at.Statement.{statement}
+use Rattle.sun.proofs.place.lifted_at.Tie as tie
+
+-- what `midnight_at` said, handed the machine's readings
+said : (c : tie.After-midnight-at) → saidMidnight (c .midnight-at .result) ≡ midnightAnswer (c .before .args .n) (c .before .args .d)
+said c = c .midnight-at .ensures ∙ ap₂ midnightAnswer (toZ-ofZ (c .before .fits .n)) (toZ-ofZ (c .before .fits .d))
+
+in-range : (c : tie.After-y) → Inside 2_000 2_000 (c .before .before .before .args .n) (c .y .given .0 .0)
+    × Inside 4 370 (c .before .before .before .args .d) (c .y .given .0 .1 .0)
+in-range c =
+    let start = c .before .before .before in
+    midnight-in (start .args .n) (start .args .d)
+    (subst (λ r. saidMidnight r ≡ midnightAnswer (start .args .n) (start .args .d)) (c .y .given .1) (said (c .before .before)))
+
+held-back : (c : tie.After-refusal) {A : Type 0} (x : Answer A)
+    → refused (numberOf (c .refusal .given .0 .0)) ≡ refusing (badYear (c .before .before .before .args .n)) 1 (refusing (badDay (c .before .before .before .args .d)) 2 x)
+held-back c x =
+    let start = c .before .before .before in
+    midnight-out (start .args .n) (start .args .d)
+    (subst (λ r. saidMidnight r ≡ midnightAnswer (start .args .n) (start .args .d)) (c .refusal .given .1) (said (c .before .before))) x
+
+midnight-at-requires : tie.Need-midnight-at-requires
+midnight-at-requires c κs = search needs
+
+enum-known-y : tie.Need-enum-known-y
+enum-known-y c = search needs
+
+root-of-requires : tie.Need-root-of-requires
+root-of-requires c κs = in-range (c .before) .0 .most
+
+lifted-place-requires : tie.Need-lifted-place-requires
+lifted-place-requires c κs =
+    let i = in-range (c .before .before) in (i .0 .most, c .root-of .ensures .0, i .1 .most)
+
+enum-known-refusal : tie.Need-enum-known-refusal
+enum-known-refusal c = search needs
+
+returns : tie.Need-returns
+returns c =
+    let start = c .before .before .before .before .before .before in
+    let i = in-range (c .before .before .before) in
+    (c .lifted-place .ensures .0 ∙ lifted-place (start .args .n) (start .args .d) (i .0) (i .1) epicycles, c .lifted-place .ensures .1)
+
+returns-2 : tie.Need-returns-2
+unfolding liftedAnswer
+returns-2 c =
+    let start = c .before .before .before .before in (
+      held-back (c .before)
+          (refusing (offTable epicycles (anomaly (start .args .n) (start .args .d))) 5
+          (value (natAbs (runOnPlace epicycles (start .args .n) (start .args .d) +ℤ pos lift)))),
+      tt,
+    )
+
+pub lifted-at-spec : {M : Type 1} → statement M
+lifted-at-spec =
+    tie.close
+    (tie.spec midnight-at-requires enum-known-y root-of-requires lifted-place-requires enum-known-refusal returns returns-2)

@@ -1,0 +1,64 @@
+-- Both edges are document 01's, the year's refusal first. Assumes nothing.
+use mathlib.Core.Path.{_≡_, refl, ap, sym, _∙_, subst}
+use mathlib.Core.Bool.{true}
+use lib.IntN.{ℤ}
+use mir.Facts.{toZ-ofZ}
+use borrow.Author.Needs.{needs}
+use Rattle.law.specs.Answer.{value, refused}
+use Rattle.law.specs.Document.{badYear, badDay}
+use Rattle.law.specs.Working.{yearIndex, dayIndex, midnightAnswer}
+use Rattle.law.proofs.Edges.{midnight-bad-year, midnight-bad-day, midnight-is}
+use Rattle.units.specs.Said.{numberOf, saidNumber}
+use Rattle.sun.proofs.place.midnight_at.Statement.{statement}
+use Rattle.sun.proofs.place.midnight_at.Tie as tie
+
+-- what the edges said: each was handed the machine's reading
+year-said : (c : tie.After-year-index) → saidNumber (c .year-index .result) ≡ yearIndex (c .before .args .n)
+year-said c = c .year-index .ensures ∙ ap yearIndex (toZ-ofZ (c .before .fits .n))
+
+day-said : (c : tie.After-day-index) → saidNumber (c .day-index .result) ≡ dayIndex (c .before .before .before .before .before .args .d)
+day-said c = c .day-index .ensures ∙ ap dayIndex (toZ-ofZ (c .before .before .before .before .before .fits .d))
+
+year-is : (c : tie.After-y) → value (c .y .given .0 .0) ≡ yearIndex (c .before .before .before .args .n)
+year-is c = subst (λ r. saidNumber r ≡ yearIndex (c .before .before .before .args .n)) (c .y .given .1) (year-said (c .before .before))
+
+year-index-requires : tie.Need-year-index-requires
+year-index-requires c κs = search needs
+
+enum-known-y : tie.Need-enum-known-y
+enum-known-y c = search needs
+
+enum-told : tie.Need-enum-told
+enum-told c = search needs
+
+returns : tie.Need-returns
+returns c =
+    let start = c .before .before .before in
+    midnight-bad-year (start .args .n) (start .args .d)
+    (subst (λ r. saidNumber r ≡ yearIndex (start .args .n)) (c .enum-told .given .1) (year-said (c .before .before)))
+
+day-index-requires : tie.Need-day-index-requires
+day-index-requires c κs = search needs
+
+enum-known-j : tie.Need-enum-known-j
+enum-known-j c = search needs
+
+enum-told-2 : tie.Need-enum-told-2
+enum-told-2 c = search needs
+
+returns-2 : tie.Need-returns-2
+returns-2 c =
+    let start = c .before .before .before .before .before .before .before in
+    midnight-bad-day (start .args .n) (start .args .d) (year-is (c .before .before .before .before))
+    (subst (λ r. saidNumber r ≡ dayIndex (start .args .d)) (c .enum-told2 .given .1) (day-said (c .before .before)))
+
+returns-3 : tie.Need-returns-3
+returns-3 c =
+    let start = c .before .before .before .before .before .before .before .before in
+    midnight-is (start .args .n) (start .args .d) (year-is (c .before .before .before .before .before))
+    (subst (λ r. saidNumber r ≡ dayIndex (start .args .d)) (c .before .j .given .1) (day-said (c .before .before .before)))
+
+pub midnight-at-spec : {M : Type 1} → statement M
+midnight-at-spec =
+    tie.close
+    (tie.spec year-index-requires enum-known-y enum-told returns day-index-requires enum-known-j enum-told-2 returns-2 returns-3)

@@ -1,0 +1,58 @@
+-- The year's four values are the document's, and refusal 1 exactly outside its years. Assumes nothing.
+use mathlib.Core.Path.{_≡_, refl, ap, _∙_, subst}
+use native.Mathlib.Omega.{arith}
+use mir.Facts.{toZ-ofZ}
+use borrow.Author.Needs.{needs}
+use Rattle.law.specs.Answer.{value, refused}
+use Rattle.law.specs.Document.{yearAnswer}
+use Rattle.law.specs.Working.{yearIndex, rootOf, rootFrom}
+use Rattle.law.proofs.Edges.{Inside, year-in, year-out}
+use Rattle.law.proofs.Bridge.{fraction-is, day-name-is, mansion-is, root-is}
+use Rattle.units.specs.Said.{saidNumber}
+use Rattle.sun.proofs.year.year_of.Statement.{statement}
+use Rattle.sun.proofs.year.year_of.Tie as tie
+
+-- what `year_index` said, handed the machine's reading
+said : (c : tie.After-year-index) → saidNumber (c .year-index .result) ≡ yearIndex (c .before .args .n)
+said c = c .year-index .ensures ∙ ap yearIndex (toZ-ofZ (c .before .fits .n))
+
+in-range : (c : tie.After-y) → Inside 2_000 2_000 (c .before .before .before .args .n) (c .y .given .0 .0)
+in-range c =
+    let n = c .before .before .before .args .n in
+    year-in n (subst (λ r. saidNumber r ≡ yearIndex n) (c .y .given .1) (said (c .before .before)))
+
+year-index-requires : tie.Need-year-index-requires
+year-index-requires c κs = search needs
+
+enum-known-y : tie.Need-enum-known-y
+enum-known-y c = search needs
+
+enum-told : tie.Need-enum-told
+enum-told c = search needs
+
+returns : tie.Need-returns
+unfolding yearAnswer
+returns c =
+    let n = c .before .before .before .args .n in
+    rw (year-out n (subst (λ r. saidNumber r ≡ yearIndex n) (c .enum-told .given .1) (said (c .before .before)))) refl
+
+solstice-requires : tie.Need-solstice-requires
+solstice-requires c κs = in-range (c .before) .most
+
+add-t9 : tie.Need-add-t9
+add-t9 c = search needs
+
+root-requires : tie.Need-root-requires
+root-requires c κs = search needs
+
+returns-2 : tie.Need-returns-2
+unfolding yearAnswer rootOf
+returns-2 c =
+    let i = in-range (c .before .before .before) in
+    let s = c .before .solstice .ensures in
+    rw (i .test, day-name-is (i .is), fraction-is (i .is), mansion-is (i .is), root-is (i .is), c .root .ensures .0, s) refl
+
+pub year-of-spec : {M : Type 1} → statement M
+year-of-spec =
+    tie.close
+    (tie.spec year-index-requires enum-known-y enum-told returns solstice-requires add-t9 root-requires returns-2)
