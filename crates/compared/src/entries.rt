@@ -10,11 +10,19 @@ fn line(name: &[u8], seat: usize, entry: u64) {
     text(b"\n");
 }
 
-pub(crate) fn lines() {
+fn sines() {
     for k in 0..541usize {
         line(b"sine ", k, tables::sine_entry(k));
     }
+}
+
+fn tangents() {
     for m in 0..131usize {
         line(b"tangent ", m, tables::tangent_entry(m));
     }
+}
+
+pub(crate) fn lines() {
+    sines();
+    tangents();
 }

@@ -7,6 +7,7 @@ use crate::print::signed;
 use crate::print::signed_answer;
 use crate::print::text;
 use units::Signed;
+ghost use Prim.Native.Nat.{_≤_};
 
 const DEGREE: u64 = 216_000_000_000;
 
@@ -49,27 +50,41 @@ fn beside_004(degrees: u8, printed: u32) {
     }
 }
 
-fn joint(quarters: u64) {
+fn joint(quarters: u64)
+    requires { ⌜ quarters ≤ 10 ⌝ }
+{
     line(less(quarters * QUARTER, 5 * QUARTER + 1));
     line(less(quarters * QUARTER, 5 * QUARTER));
     line(less(quarters * QUARTER + 1, 5 * QUARTER));
+}
+
+fn joints() {
+    for quarters in 0..11u64 {
+        joint(quarters);
+    }
+}
+
+fn entries() {
+    for k in 0..541u64 {
+        line(less(k * 36_000_000_000, 0));
+    }
+}
+
+fn spread() {
+    for i in 0..2_000u64 {
+        line(less(i * 77_777_777_777, 40_000_000_000_000));
+    }
 }
 
 pub(crate) fn lines() {
     beside_004(30, 225_258);
     beside_004(90, 443_380);
     beside_004(140, 281_213);
-    for quarters in 0..11u64 {
-        joint(quarters);
-    }
+    joints();
     line(-9_223_372_036_854_775_808);
     line(-9_223_372_036_854_775_807);
     line(9_223_372_036_854_775_806);
     line(9_223_372_036_854_775_807);
-    for k in 0..541u64 {
-        line(less(k * 36_000_000_000, 0));
-    }
-    for i in 0..2_000u64 {
-        line(less(i * 77_777_777_777, 40_000_000_000_000));
-    }
+    entries();
+    spread();
 }

@@ -23,6 +23,12 @@ fn line(n: i64, d: i64) {
     text(b"\n");
 }
 
+fn every_eleventh(n: i64) {
+    for i in 0..33u64 {
+        line(n, less(7 + 11 * i, 0));
+    }
+}
+
 fn year(n: i64) {
     line(n, LEAST);
     line(n, -5);
@@ -31,9 +37,7 @@ fn year(n: i64) {
     line(n, -1);
     line(n, 0);
     line(n, 1);
-    for i in 0..33u64 {
-        line(n, less(7 + 11 * i, 0));
-    }
+    every_eleventh(n);
     line(n, 369);
     line(n, 370);
     line(n, 371);

@@ -6,7 +6,7 @@ use lib.IntN.{pos, negℤ}
 use Rattle.tables.specs.Sines.{sines}
 use Rattle.tables.specs.Tangents.{tangents}
 use Rattle.tables.specs.Entry.{sineEntry, tangentEntry}
-use Rattle.law.specs.Round.{halfUp, floorDiv, floorMod}
+use Rattle.law.specs.Round.{halfUp, halfUpOnSize, floorDiv, floorMod}
 use Rattle.law.specs.Document.{second, minute, degree, circle, day, yearLength, dailyMotion, perigeeYearly, perigeeDaily, perigeeEpoch, epicycles, solstice, dayName, fraction, root, mirrored, folded, between, sine, cosine, height, base, longSide, tangent, lastMinute, anglePast, angle, equation}
 
 pub record Marked : Type 0 where
@@ -62,3 +62,14 @@ constants =
       epoch-both = refl;
       difference = refl;
     }
+
+-- exactly a half: up; below 0, away from 0 on the size; and a quotient below 0 is rounded down
+pub record Halves : Type 0 where
+  pub up : halfUp 1 2 ≡ 1
+  pub size : halfUpOnSize (negℤ (pos 1)) 2 ≡ negℤ (pos 1)
+  pub down : floorDiv (negℤ (pos 1)) 60 ≡ negℤ (pos 1)
+  pub never-sixty : floorMod (negℤ (pos 60)) 60 ≡ 0
+
+pub halves : Halves
+unfolding halfUp halfUpOnSize floorDiv floorMod
+halves = record { up = refl; size = refl; down = refl; never-sixty = refl }
