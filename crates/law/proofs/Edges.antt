@@ -18,7 +18,8 @@ pub record Inside (lo hi : ℕ) (z : ℤ) (i : ℕ) : Type 0 where
   pub is : Is z i lo
   pub most : i ≤ lo + hi
 
-neither : (b c : Bool) → (b || c) ≡ false → T (not b) × T (not c)
+-- neither test held
+pub neither : (b c : Bool) → (b || c) ≡ false → T (not b) × T (not c)
 neither true c e = absurd (let z : _≡_ {A = ℕ} 0 1 = cc in omega arith)
 neither false true e = absurd (let z : _≡_ {A = ℕ} 0 1 = cc in omega arith)
 neither false false e = (tt, tt)

@@ -5,13 +5,12 @@ use native.Mathlib.Omega.{arith}
 use borrow.Author.Needs.{needs}
 use Rattle.law.specs.Document.{circle, dailyMotion}
 use Rattle.law.specs.Working.{rootOf, solsticeOf, anomalyOf}
-use Rattle.law.proofs.Root.{root-le}
+use Rattle.law.proofs.Root.{root-of-le}
 use Rattle.sun.proofs.place.anomaly.Statement.{statement}
 use Rattle.sun.proofs.place.anomaly.Tie as tie
 
 small : (c : tie.Start) → c .args .root ≤ dailyMotion
-unfolding rootOf
-small c = omega (arith, c .pre, root-le (solsticeOf (c .args .y)))
+small c = omega (arith, c .pre, root-of-le (c .args .y))
 
 mul-result : tie.Need-mul-result
 mul-result c = search needs

@@ -6,7 +6,7 @@ use borrow.Author.Needs.{needs}
 use Rattle.law.specs.Answer.{value, refused}
 use Rattle.law.specs.Document.{epicycles, dailyMotion}
 use Rattle.law.specs.Working.{solsticeOf, rootOf, sizeAnswer, headroom, placeAnswer}
-use Rattle.law.proofs.Root.{root-le}
+use Rattle.law.proofs.Root.{root-of-le}
 use Rattle.law.proofs.Places.{place-added, place-taken, place-refused}
 use Rattle.units.specs.Said.{numberOf, saidNumber}
 use Rattle.sun.specs.Said.{numberUpTo}
@@ -14,8 +14,7 @@ use Rattle.sun.proofs.place.lifted_place.Statement.{statement}
 use Rattle.sun.proofs.place.lifted_place.Tie as tie
 
 small : (c : tie.Start) → c .args .root ≤ dailyMotion
-unfolding rootOf
-small c = omega (arith, c .pre, root-le (solsticeOf (c .args .y)))
+small c = omega (arith, c .pre, root-of-le (c .args .y))
 
 -- what `size_at` said, where it was a size and where it was a refusal
 size-is : (c : tie.After-size) → value (c .size .given .0 .0) ≡ sizeAnswer epicycles (c .before .before .before .anomaly .result)

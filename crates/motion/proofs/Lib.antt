@@ -1,0 +1,16 @@
+pub mod HalfUp
+pub mod Slope
+pub mod SineSlope
+pub mod Reach
+pub mod AngleSlope
+pub mod Sway
+pub mod Equation
+pub mod Turns
+pub mod DailyMotion
+pub mod Walk
+pub mod TermBridge
+pub mod Years
+pub mod Rises
+pub mod OneDay
+pub mod EightMidnights
+pub mod NeverOffTable

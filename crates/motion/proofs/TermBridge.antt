@@ -1,0 +1,61 @@
+-- Document 01's start, count, day and minute of a term are the working forms', once each: the year y = N + 2,000, the day j = d + 4,
+-- the mark lifted. Assumes nothing.
+use mathlib.Core.Path.{_≡_, refl, _∙_}
+use Prim.Native.Nat.{ℕ, zero, suc, _+_, _*_, _-_, _/_, _≤_}
+use native.Mathlib.Nat.{add-zero}
+use native.Mathlib.Omega.{arith}
+use lib.Dec.{ltb}
+use lib.IntN.{ℤ, pos, natAbs, _-ℤ_}
+use lib.Signed.{ltZ}
+use Rattle.law.specs.Document.{dailyMotion, epicycles, root, runOnPlace, mark, start, visits, count, termDay, minuteOn, termMinute}
+use Rattle.law.specs.Working.{rootOf, lift, placeOf, markOf, startOf, visited}
+use Rattle.law.proofs.Whole.{Is, is-pos, is-next, is-add, is-minus, is-abs, ltZ-is}
+use Rattle.law.proofs.Floor.{div-is}
+use Rattle.law.proofs.Bridge.{root-is, run-on-is}
+use Rattle.law.proofs.Root.{root-of-le}
+use Rattle.motion.proofs.Walk.{countOf, dayOf, walk}
+
+-- the walk, over any place that its working form lifts by s
+pub visits-is : (place : ℤ → ℤ) (placed : ℕ → ℕ) (m s : ℕ) → ((d : ℤ) (j : ℕ) → Is d j 4 → Is (place d) (placed j) s)
+    → (left : ℕ) {d : ℤ} {j : ℕ} → Is d j 4 → visits place (pos m) left d ≡ visited placed (m + s) left j
+unfolding visits visited
+visits-is place placed m s t zero g = refl
+visits-is place placed m s t (suc left) {d} {j} g =
+    let i : ltZ (pos m) (place d) ≡ ltb (m + s) (placed j) = rw add-zero at (ltZ-is (is-pos m) (t d j g)) in
+    rw (i, visits-is place placed m s t left (is-next g)) refl
+
+-- two numbers lifted alike
+abs-apart : {x z : ℤ} {a b s : ℕ} → Is x a s → Is z b s → b ≤ a → natAbs (x -ℤ z) ≡ a - b
+abs-apart p q h = is-abs (is-minus p q) (omega arith) ∙ omega arith
+
+module _ {N : ℤ} {y : ℕ} (h : Is N y 2_000) where
+  pub start-is : (k : ℕ) → Is (start N k) (startOf y (markOf k)) 4
+  unfolding start startOf mark
+  start-is k =
+      let r = root-of-le y in
+      let p : Is (mark k -ℤ pos (root N)) (markOf k + 4 * dailyMotion - rootOf y) (4 * dailyMotion) =
+      omega (arith, is-minus (is-pos (markOf k)) (is-pos (root N)), root-is h) in
+      omega (arith, is-minus (div-is 4 dailyMotion (omega arith) p) (is-pos 3))
+
+  module _ (e : ℕ) (l : y ≤ 4_000) (k : ℕ) where
+    pub count-is : count e N k ≡ countOf e y (markOf k)
+    unfolding count mark
+    count-is =
+        visits-is (runOnPlace e N) (placeOf e y) (markOf k) lift (λ (d : ℤ) (j : ℕ) (g : Is d j 4). run-on-is h g e l) 8 (start-is k)
+
+    module _ (o : e ≤ epicycles) where
+      pub term-day-is : Is (termDay e N k) (dayOf e y (markOf k)) 4
+      unfolding termDay
+      term-day-is =
+          omega (arith, is-minus (is-add (start-is k) (is-pos (count e N k))) (is-pos 2), count-is, walk e o y (markOf k) .two)
+
+      pub term-minute-is : termMinute e N k
+          ≡ 1_440 * (markOf k + lift - placeOf e y (dayOf e y (markOf k)))
+          / (placeOf e y (suc (dayOf e y (markOf k))) - placeOf e y (dayOf e y (markOf k)))
+      unfolding termMinute minuteOn mark
+      term-minute-is =
+          let m : Is (mark k) (markOf k + lift) lift = omega (arith, is-pos (markOf k)) in
+          let p = run-on-is h term-day-is e l in
+          let q = run-on-is h (is-next term-day-is) e l in
+          let w = walk e o y (markOf k) in
+          rw (abs-apart m p (w .before), abs-apart q p (omega (arith, w .before, w .after))) refl

@@ -1,0 +1,1 @@
+// How the run-on place moves from day to day, and what follows for the terms' days: laws for the crates above. No code.
