@@ -7,7 +7,7 @@ use Rattle.tables.specs.Sines.{sines}
 use Rattle.tables.specs.Tangents.{tangents}
 use Rattle.tables.specs.Entry.{sineEntry, tangentEntry}
 use Rattle.law.specs.Round.{halfUp, halfUpOnSize, floorDiv, floorMod}
-use Rattle.law.specs.Document.{second, minute, degree, circle, day, yearLength, dailyMotion, perigeeYearly, perigeeDaily, perigeeEpoch, epicycles, solstice, dayName, fraction, root, mirrored, folded, between, sine, cosine, height, base, longSide, tangent, lastMinute, anglePast, angle, equation}
+use Rattle.law.specs.Document.{second, minute, degree, circle, day, yearLength, dailyMotion, perigeeYearly, perigeeDaily, perigeeEpoch, epicycles, solstice, dayName, fraction, root, mirrored, folded, between, sine, cosine, height, base, longSide, tangent, lastMinute, anglePast, angle, equation, clockOfArc, localMinutes, localDay, localMinute}
 
 pub record Marked : Type 0 where
   pub year-0 : (fraction (pos 0) ≡ 656_374_926) × (root (pos 0) ≡ 73_157_720_187)
@@ -21,9 +21,11 @@ pub record Marked : Type 0 where
   pub at-90 : (tangent epicycles (90 * degree) ≡ 358_416) × (equation epicycles (90 * degree) ≡ pos 443_382_080_329)
   pub at-270 : equation epicycles (270 * degree) ≡ negℤ (pos 443_382_080_329)
   pub at-140 : (tangent epicycles (140 * degree) ≡ 227_266) × (equation epicycles (140 * degree) ≡ pos 281_213_195_876)
+  pub east : (localDay (pos 10) 1_435 (pos 13_284) ≡ pos 11) × (localMinute (pos 10) 1_435 (pos 13_284) ≡ 9)
+  pub west : (localDay (pos 10) 0 (negℤ (pos 12_795)) ≡ pos 9) × (localMinute (pos 10) 0 (negℤ (pos 12_795)) ≡ 1_425)
 
 pub marked : Marked
-unfolding solstice dayName fraction root floorDiv floorMod halfUp mirrored folded sines tangents sineEntry tangentEntry between sine cosine height base longSide tangent lastMinute anglePast angle equation
+unfolding solstice dayName fraction root floorDiv floorMod halfUp mirrored folded sines tangents sineEntry tangentEntry between sine cosine height base longSide tangent lastMinute anglePast angle equation halfUpOnSize clockOfArc localMinutes localDay localMinute
 marked =
     record {
       year-0 = (refl, refl);
@@ -37,6 +39,8 @@ marked =
       at-90 = (refl, refl);
       at-270 = refl;
       at-140 = (refl, refl);
+      east = (refl, refl);
+      west = (refl, refl);
     }
 
 -- seconds with their decimals are units; 10‴ are a sixth of a second; 360 degrees are the circle

@@ -199,9 +199,20 @@ minuteOn e N mark d =
 unfoldable pub termMinute : ℕ → ℤ → ℕ → ℕ
 termMinute e N k = minuteOn e N (mark k) (termDay e N k)
 
--- fifteen seconds of arc make one clock second, half or more up on the size
+-- a place lies at a signed longitude in seconds of arc, east positive; fifteen make one clock second, half or more up on the size
 unfoldable pub clockOfArc : ℤ → ℤ
 clockOfArc arc = halfUpOnSize arc 15
+
+-- these are added to day and minute; the seconds left over are cut off downward: in minutes from day 0 on
+unfoldable pub localMinutes : ℤ → ℕ → ℤ → ℤ
+localMinutes d m arc = floorDiv ((d *ℤ pos 1_440 +ℤ pos m) *ℤ pos 60 +ℤ clockOfArc arc) 60
+
+-- and the day carries
+unfoldable pub localDay : ℤ → ℕ → ℤ → ℤ
+localDay d m arc = floorDiv (localMinutes d m arc) 1_440
+
+unfoldable pub localMinute : ℤ → ℕ → ℤ → ℕ
+localMinute d m arc = floorMod (localMinutes d m arc) 1_440
 
 -- ======== Refusal numbers
 
@@ -212,13 +223,32 @@ outside least most z = ltZ z least || ltZ most z
 abbrev pub badYear : ℤ → Bool
 badYear N = outside (negℤ (pos 2_000)) (pos 2_000) N
 
--- 2: a day outside -4 to 370
+-- 2: a day outside -4 to 370, or a minute above 1,439
 abbrev pub badDay : ℤ → Bool
 badDay d = outside (negℤ (pos 4)) (pos 370) d
+
+abbrev pub badMinute : ℕ → Bool
+badMinute m = ltb 1_439 m
+
+-- 3: a term above 23
+abbrev pub badTerm : ℕ → Bool
+badTerm k = ltb 23 k
+
+-- 4: longitude beyond 648,000″ either way
+abbrev pub badLongitude : ℤ → Bool
+badLongitude arc = outside (negℤ (pos 648_000)) (pos 648_000) arc
 
 -- 5: tangent above the table's end
 abbrev pub offTable : ℕ → ℕ → Bool
 offTable e a = ltb (tangentEntry lastTangent) (tangent e a)
+
+-- for a term, at any midnight visited from day d on
+unfoldable pub visitsOff : (ℤ → Bool) → (ℤ → ℤ) → ℤ → ℕ → ℤ → Bool
+visitsOff off place mark zero d = false
+visitsOff off place mark (suc left) d = off d || cond (ltZ mark (place d)) false (visitsOff off place mark left (d +ℤ pos 1))
+
+abbrev pub offTerm : ℕ → ℤ → ℕ → Bool
+offTerm e N k = visitsOff (λ (d : ℤ). offTable e (anomaly N d)) (runOnPlace e N) (mark k) 8 (start N k)
 
 -- ======== What the calls answer, the refusals in their order
 
@@ -247,3 +277,24 @@ trueAnswer e N d =
 unfoldable pub runOnAnswer : ℕ → ℤ → ℤ → Answer ℤ
 runOnAnswer e N d =
     refusing (badYear N) 1 (refusing (badDay d) 2 (refusing (offTable e (anomaly N d)) 5 (value (runOnPlace e N d))))
+
+-- day, minute, count
+pub record TermValues : Type 0 where
+  pub dayOfTerm : ℤ
+  pub minuteOfTerm : ℕ
+  pub midnights : ℕ
+
+unfoldable pub termValues : ℕ → ℤ → ℕ → TermValues
+termValues e N k = record { dayOfTerm = termDay e N k; minuteOfTerm = termMinute e N k; midnights = count e N k }
+
+unfoldable pub termAnswer : ℕ → ℤ → ℕ → Answer TermValues
+termAnswer e N k = refusing (badYear N) 1 (refusing (badTerm k) 3 (refusing (offTerm e N k) 5 (value (termValues e N k))))
+
+pub record LocalValues : Type 0 where
+  pub dayThere : ℤ
+  pub minuteThere : ℕ
+
+unfoldable pub localAnswer : ℤ → ℕ → ℤ → Answer LocalValues
+localAnswer d m arc =
+    refusing (badDay d || badMinute m) 2
+    (refusing (badLongitude arc) 4 (value (record { dayThere = localDay d m arc; minuteThere = localMinute d m arc })))
