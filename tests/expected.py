@@ -365,6 +365,10 @@ def term_lines():
     refusals = [(-2001, 0), (2001, 23), (-2001, 24), (2001, 24), (0, 24), (0, 2**64 - 1), (-2000, 24), (2000, 24)]
     for n, k in [*refusals, (LEAST, 0), (GREATEST, 24)]:
         yield f"term {n} {k}: {answer(term, n, k)}"
+    for n in (-2001, -2000, -1337, 0, 2000, 2001):
+        yield f"list {n}" if -2000 <= n <= 2000 else f"refused 1 list {n}"
+        for k in range(24):
+            yield f"term {n} {k}: {term(n, k) if -2000 <= n <= 2000 else 'day 0 minute 0 count 0'}"
 
 
 def local_line(day, minute, longitude):
@@ -389,7 +393,7 @@ def local_lines():
 
 # Each program's expected output, and the parts that it prints in order.
 EXPECTED_FILES = [
-    ("crates/compared/stdout", [tables_lines, year_lines, equation_lines, place_lines]),
+    ("crates/compared/stdout", [tables_lines, year_lines, equation_lines, place_lines, term_lines]),
 ]
 
 

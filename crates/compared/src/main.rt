@@ -1,9 +1,10 @@
 // Prints what document 01 has run and compared: every table entry, the figures of sources 003 and 004,
-// and a spread of years, anomalies and days with their limits. tests/expected.py makes stdout.
+// and a spread of years, anomalies, days and terms with their limits. tests/expected.py makes stdout.
 mod entries;
 mod equations;
 mod places;
 mod print;
+mod terms;
 mod years;
 
 fn main() {
@@ -11,4 +12,5 @@ fn main() {
     years::lines();
     equations::lines();
     places::lines();
+    terms::lines();
 }

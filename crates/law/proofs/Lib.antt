@@ -11,3 +11,4 @@ pub mod Root
 pub mod Equations
 pub mod Edges
 pub mod Places
+pub mod InOrder

@@ -2,6 +2,7 @@
 -- N is the years elapsed from 1684 and d a day, signed. An angle is in whole units, and a place may be below 0 or past the circle.
 -- Assumes nothing.
 use mathlib.Core.Bool.{Bool, true, false, cond, _||_}
+use mathlib.Core.List.{List, [], _∷_}
 use Prim.Native.Nat.{ℕ, zero, suc, _+_, _*_, _-_, _/_, _%_}
 use lib.Dec.{leb, ltb}
 use lib.IntN.{ℤ, pos, negℤ, natAbs, _+ℤ_, _-ℤ_, _*ℤ_}
@@ -289,6 +290,18 @@ termValues e N k = record { dayOfTerm = termDay e N k; minuteOfTerm = termMinute
 
 unfoldable pub termAnswer : ℕ → ℤ → ℕ → Answer TermValues
 termAnswer e N k = refusing (badYear N) 1 (refusing (badTerm k) 3 (refusing (offTerm e N k) 5 (value (termValues e N k))))
+
+-- terms 0 to 23, in order
+unfoldable pub inOrder : {A : Type 0} → (ℕ → A) → ℕ → List A
+inOrder f zero = []
+inOrder f (suc n) = f 0 ∷ inOrder (λ (k : ℕ). f (suc k)) n
+
+unfoldable pub offBelow : ℕ → ℤ → ℕ → Bool
+offBelow e N zero = false
+offBelow e N (suc k) = offTerm e N k || offBelow e N k
+
+unfoldable pub termsAnswer : ℕ → ℤ → Answer (List TermValues)
+termsAnswer e N = refusing (badYear N) 1 (refusing (offBelow e N 24) 5 (value (inOrder (termValues e N) 24)))
 
 pub record LocalValues : Type 0 where
   pub dayThere : ℤ

@@ -3,11 +3,11 @@
 use mathlib.Core.Bool.{cond}
 use Prim.Native.Nat.{ℕ, zero, suc, _+_, _*_, _-_, _/_, _%_}
 use lib.Dec.{leb, ltb}
-use lib.IntN.{ℤ, pos, natAbs, _+ℤ_}
+use lib.IntN.{ℤ, pos, natAbs, _+ℤ_, _-ℤ_}
 use Rattle.tables.specs.Entry.{lastTangent, tangentEntry}
 use Rattle.law.specs.Round.{halfUp}
 use Rattle.law.specs.Answer.{Answer, value, refusing}
-use Rattle.law.specs.Document.{degree, circle, half, quarter, day, yearLength, dailyMotion, perigeeYearly, perigeeDaily, perigeeEpoch, dayEpoch, radius, sine, cosine, tangent, angle, anomaly, runOnPlace, badYear, badDay, offTable}
+use Rattle.law.specs.Document.{degree, circle, half, quarter, day, yearLength, dailyMotion, perigeeYearly, perigeeDaily, perigeeEpoch, dayEpoch, radius, sine, cosine, tangent, angle, anomaly, runOnPlace, badYear, badDay, offTable, TermValues}
 
 -- ---- years and days, counted from the least allowed on
 
@@ -117,3 +117,31 @@ startOf y mark = (mark + 4 * dailyMotion - rootOf y) / dailyMotion - 3
 unfoldable pub visited : (ℕ → ℕ) → ℕ → ℕ → ℕ → ℕ
 visited place mark zero j = zero
 visited place mark (suc left) j = cond (ltb mark (place j)) 1 (suc (visited place mark left (suc j)))
+
+-- the minute between the places of two midnights in a row
+abbrev pub minuteBetween : ℕ → ℕ → ℕ → ℕ
+minuteBetween mark place next = 1_440 * (mark - place) / (next - place)
+
+-- what a walk finds: the night before the first one past the mark, the minute, and the midnights visited
+pub record Find : Type 0 where
+  pub night : ℕ
+  pub moment : ℕ
+  pub nights : ℕ
+
+-- from j on with so many left, and so many seen before
+unfoldable pub findFrom : (ℕ → ℕ) → ℕ → ℕ → ℕ → ℕ → Find
+findFrom place mark left j seen =
+    record {
+      night = j + visited place mark left j - 2;
+      moment = minuteBetween mark (place (j + visited place mark left j - 2)) (place (suc (j + visited place mark left j - 2)));
+      nights = seen + visited place mark left j;
+    }
+
+-- a term's search begins at the start itself, with eight left
+unfoldable pub findOf : ℕ → ℕ → ℕ → Find
+findOf e y k = findFrom (placeOf e y) (markOf k + lift) 8 (startOf y (markOf k)) 0
+
+-- and its day is counted as the document counts it
+unfoldable pub termOf : ℕ → ℕ → ℕ → TermValues
+termOf e y k =
+    record { dayOfTerm = pos (findOf e y k .night) -ℤ pos 4; minuteOfTerm = findOf e y k .moment; midnights = findOf e y k .nights }

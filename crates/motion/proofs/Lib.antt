@@ -14,3 +14,5 @@ pub mod Rises
 pub mod OneDay
 pub mod EightMidnights
 pub mod NeverOffTable
+pub mod Finds
+pub mod TermAnswers

@@ -77,11 +77,11 @@ module _ (e : ℕ) (o : e ≤ epicycles) (y : ℕ) where
   unfolding placeOf
   place-within j = omega (arith, added-taken-le e (anomalyOf y j) o)
 
-  start-before : (m : ℕ) → placeOf e y (startOf y m) ≤ m + lift
+  pub start-before : (m : ℕ) → placeOf e y (startOf y m) ≤ m + lift
   unfolding startOf
   start-before m = omega (arith, place-within (startOf y m), root-of-le y)
 
-  start-after : (m : ℕ) → m + lift < placeOf e y (startOf y m + 7)
+  pub start-after : (m : ℕ) → m + lift < placeOf e y (startOf y m + 7)
   unfolding startOf
   start-after m = omega (arith, place-within (startOf y m + 7), root-of-le y)
 

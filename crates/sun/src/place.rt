@@ -26,7 +26,7 @@ const ANOMALY_LIFT: u64 = CIRCLE + 2_000 * PERIGEE_YEARLY - PERIGEE_EPOCH - 4 * 
 // A run-on place is lifted by four days, and by more than any equation takes away, so that none is below 0.
 const HEADROOM: u64 = 1_000_000_000_000;
 
-const LIFT: u64 = HEADROOM + 4 * DAILY;
+pub(crate) const LIFT: u64 = HEADROOM + 4 * DAILY;
 
 // What is added so that a lifted place is a circle above the document's, and a mean place too.
 const BACK: u64 = CIRCLE - LIFT;

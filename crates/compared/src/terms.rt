@@ -1,0 +1,90 @@
+// The 24 terms of every twentieth year, one by one and as a year's list; and their refusals.
+use crate::print::less;
+use crate::print::number;
+use crate::print::refused;
+use crate::print::signed;
+use crate::print::text;
+use sun::Listed;
+use sun::TermAnswer;
+use sun::TermRecord;
+
+fn head(n: i64, k: u64) {
+    text(b"term ");
+    signed(n);
+    text(b" ");
+    number(k);
+    text(b": ");
+}
+
+fn values(term: TermRecord) {
+    text(b"day ");
+    signed(term.day);
+    text(b" minute ");
+    number(term.minute);
+    text(b" count ");
+    number(term.count);
+    text(b"\n");
+}
+
+fn line(n: i64, k: u64) {
+    head(n, k);
+    match sun::term_of(n, k) {
+        TermAnswer::Is(term) => values(term),
+        TermAnswer::Refused(refusal) => {
+            refused(refusal);
+            text(b"\n");
+        }
+    }
+}
+
+fn year(n: i64) {
+    for k in 0..24u64 {
+        line(n, k);
+    }
+}
+
+fn every_twentieth() {
+    for i in 0..201u64 {
+        year(less(20 * i, 2_000));
+    }
+}
+
+// The year's list: its refusal where there is one, then all its records.
+fn list(n: i64) {
+    let terms = sun::terms_of(n);
+    let answer = terms.answer;
+    match answer {
+        Listed::All => text(b"list "),
+        Listed::Refused(refusal) => {
+            refused(refusal);
+            text(b" list ");
+        }
+    }
+    signed(n);
+    text(b"\n");
+    let at = terms.at;
+    for k in 0..24usize {
+        head(n, k as u64);
+        values(at[k]);
+    }
+}
+
+pub(crate) fn lines() {
+    every_twentieth();
+    line(-2_001, 0);
+    line(2_001, 23);
+    line(-2_001, 24);
+    line(2_001, 24);
+    line(0, 24);
+    line(0, 18_446_744_073_709_551_615);
+    line(-2_000, 24);
+    line(2_000, 24);
+    line(-9_223_372_036_854_775_808, 0);
+    line(9_223_372_036_854_775_807, 24);
+    list(-2_001);
+    list(-2_000);
+    list(-1_337);
+    list(0);
+    list(2_000);
+    list(2_001);
+}

@@ -1,0 +1,92 @@
+-- Each turn puts the next term in its place, so that the list is the terms in order. A refusal never comes. Assumes nothing.
+use mathlib.Core.Path.{_≡_, refl, _∙_, subst}
+use Prim.Native.Nat.{_≤_, _-_}
+use native.Mathlib.Omega.{arith}
+use lib.IntN.{pos}
+use lib.ListN.{length, replicate, length-set}
+use borrow.Author.Needs.{needs}
+use Rattle.law.specs.Answer.{value}
+use Rattle.law.specs.Document.{epicycles}
+use Rattle.law.specs.Working.{termOf}
+use Rattle.law.proofs.Answers.{same-value, never}
+use Rattle.law.proofs.InOrder.{Filled, filled-none, filled-more, filled-all}
+use Rattle.sun.specs.Said.{valuesOf, saidTerm}
+use Rattle.sun.specs.declared.term.TermRecord.{TermRecord}
+use Rattle.sun.proofs.term.terms_in.Statement.{statement}
+use Rattle.sun.proofs.term.terms_in.Tie as tie
+
+abbrev blank : TermRecord
+blank = record { day = pos 0; minute = 0; count = 0 }
+
+abbrev Inv-loop : tie.InvT-loop
+Inv-loop y root at₀ k₀ at k = (k ≤ 24) × (length at ≡ 24) × Filled valuesOf (termOf epicycles y) blank at k
+
+abbrev μ-loop : tie.MeasureT-loop
+μ-loop y root at₀ k₀ at k = 24 - k
+
+loop-holds : tie.Need-loop-holds Inv-loop μ-loop
+loop-holds c = (omega arith, refl, filled-none valuesOf (termOf epicycles (c .args .y)) blank (replicate 24 blank))
+
+term-in-requires : tie.Need-term-in-requires Inv-loop μ-loop
+term-in-requires c κs = (c .before .before .pre .0, c .before .before .pre .1, omega arith)
+
+enum-known-term : tie.Need-enum-known-term Inv-loop μ-loop
+enum-known-term c = search needs
+
+mul-at : tie.Need-mul-at Inv-loop μ-loop
+mul-at c = search needs
+
+array-set-from-at : tie.Need-array-set-from-at Inv-loop μ-loop
+array-set-from-at c = search needs
+
+enum-known-refusal : tie.Need-enum-known-refusal Inv-loop μ-loop
+enum-known-refusal c = search needs
+
+returns : tie.Need-returns Inv-loop μ-loop
+returns c =
+    let y = c .before .before .before .before .before .before .args .y in
+    let k = c .before .before .before .before .before .loop .k in
+    absurd
+    (never (subst (λ r. saidTerm r ≡ value (termOf epicycles y k)) (c .before .refusal .given .1) (c .before .before .before .term-in .ensures)))
+
+add-k : tie.Need-add-k Inv-loop μ-loop
+add-k c = search needs
+
+loop-less : tie.Need-loop-less Inv-loop μ-loop
+loop-less c = search needs
+
+loop-again : tie.Need-loop-again Inv-loop μ-loop
+loop-again c =
+    let y = c .before .before .before .before .before .before .args .y in
+    let l = c .before .before .before .before .before .loop in
+    let term = c .before .term .given .0 .0 in (
+      omega arith,
+      length-set (l .at) (l .k) term ∙ l .inv .1,
+      filled-more valuesOf (termOf epicycles y) blank (l .at) (l .k) term (l .inv .2) (omega (arith, l .inv .1))
+          (same-value (subst (λ r. saidTerm r ≡ value (termOf epicycles y (l .k))) (c .before .term .given .1) (c .before .before .before .term-in .ensures))),
+    )
+
+returns-2 : tie.Need-returns-2 Inv-loop μ-loop
+returns-2 c =
+    let y = c .before .before .args .y in
+    let l = c .before .loop in
+    let e : l .k ≡ 24 = omega arith in
+    (refl, filled-all valuesOf (termOf epicycles y) blank (l .at) 24 (l .inv .1) (subst (Filled valuesOf (termOf epicycles y) blank (l .at)) e (l .inv .2)))
+
+pub terms-in-spec : {M : Type 1} → statement M
+terms-in-spec =
+    tie.close
+    (tie.spec
+    Inv-loop
+    μ-loop
+    loop-holds
+    term-in-requires
+    enum-known-term
+    mul-at
+    array-set-from-at
+    enum-known-refusal
+    returns
+    add-k
+    loop-less
+    loop-again
+    returns-2)
