@@ -393,7 +393,7 @@ def local_lines():
 
 # Each program's expected output, and the parts that it prints in order.
 EXPECTED_FILES = [
-    ("crates/compared/stdout", [tables_lines, year_lines, equation_lines, place_lines, term_lines]),
+    ("crates/compared/stdout", [tables_lines, year_lines, equation_lines, place_lines, term_lines, local_lines]),
 ]
 
 

@@ -1,7 +1,8 @@
-// Prints what document 01 has run and compared: every table entry, the figures of sources 003 and 004,
-// and a spread of years, anomalies, days and terms with their limits. tests/expected.py makes stdout.
+// Prints what document 01 has run and compared: every table entry, the figures of sources 002, 003 and
+// 004, and a spread of years, anomalies, days, terms and local times with their limits. tests/expected.py makes stdout.
 mod entries;
 mod equations;
+mod local_times;
 mod places;
 mod print;
 mod terms;
@@ -13,4 +14,5 @@ fn main() {
     equations::lines();
     places::lines();
     terms::lines();
+    local_times::lines();
 }

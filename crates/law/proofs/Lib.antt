@@ -12,3 +12,5 @@ pub mod Equations
 pub mod Edges
 pub mod Places
 pub mod InOrder
+pub mod WorkedTerms
+pub mod LocalTime

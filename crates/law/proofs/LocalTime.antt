@@ -1,0 +1,73 @@
+-- A local time is counted in clock seconds from the midnight of day -5 on: one day before the least day that is given, so that
+-- none is below 0. Five days less, cut off to minutes and carried, it is the document's; and its answer by cases. Assumes nothing.
+use mathlib.Core.Path.{_≡_, refl, ap, sym, subst}
+use mathlib.Core.Bool.{true, false}
+use Prim.Native.Nat.{ℕ, zero, suc, _+_, _*_, _/_, _%_, _≤_, _<_}
+use native.Mathlib.Omega.{arith}
+use lib.IntN.{ℤ, pos, negsuc, negℤ, natAbs, _+ℤ_, _-ℤ_}
+use Rattle.law.specs.Answer.{value, refused}
+use Rattle.law.specs.Document.{clockOfArc, localMinutes, localDay, localMinute, badLongitude, localAnswer}
+use Rattle.law.specs.Working.{dayIndex}
+use Rattle.law.proofs.Choice.{lt-yes, lt-no}
+use Rattle.law.proofs.Whole.{Is, up, down, is-own, is-pos, is-add, is-minus, is-times, same}
+use Rattle.law.proofs.Floor.{div-is, mod-is}
+use Rattle.law.proofs.Edges.{Inside, inside, day-out}
+use Rattle.law.proofs.Clock.{clock-east, clock-west}
+
+-- ---- the shift
+
+size-west : (n : ℕ) → natAbs (negℤ (pos n)) ≡ n
+size-west zero = refl
+size-west (suc n) = refl
+
+-- a longitude that is not refused shifts by half a day at most
+pub half-a-day : (arc : ℤ) → badLongitude arc ≡ false → natAbs (clockOfArc arc) ≤ 43_200
+unfolding up down
+half-a-day (pos n) e =
+    omega (arith, ap natAbs (clock-east n), inside 648_000 648_000 (pos n) (natAbs (pos n +ℤ pos 648_000)) e refl)
+half-a-day (negsuc n) e =
+    omega (arith, ap natAbs (clock-west n), size-west ((suc n + 7) / 15), inside 648_000 648_000 (negsuc n) (natAbs (negsuc n +ℤ pos 648_000)) e refl)
+
+-- ---- day and minute: t is the clock seconds there
+
+module _ (d : ℤ) (m : ℕ) (arc : ℤ) (j t : ℕ) (i : Is d j 4) (e : pos t ≡ pos (j * 86_400 + m * 60 + 86_400) +ℤ clockOfArc arc) where
+  shift : t + down (clockOfArc arc) ≡ j * 86_400 + m * 60 + 86_400 + up (clockOfArc arc)
+  unfolding up down
+  shift =
+      let p : Is (pos t) (j * 86_400 + m * 60 + 86_400 + up (clockOfArc arc)) (0 + down (clockOfArc arc)) =
+      subst (λ (z : ℤ). Is z (j * 86_400 + m * 60 + 86_400 + up (clockOfArc arc)) (0 + down (clockOfArc arc))) (sym e) (is-add (is-pos (j * 86_400 + m * 60 + 86_400)) (is-own (clockOfArc arc))) in
+      omega arith
+
+  minutes-is : Is (localMinutes d m arc) (t / 60) (5 * 1_440)
+  unfolding localMinutes
+  minutes-is =
+      div-is (5 * 1_440) 60 (omega arith) (omega (arith, shift, is-add (is-times 60 (is-add (is-times 1_440 i) (is-pos m))) (is-own (clockOfArc arc))))
+
+  local-day-is : localDay d m arc ≡ pos (t / 86_400) -ℤ pos 5
+  unfolding localDay
+  local-day-is = same (div-is 5 1_440 (omega arith) minutes-is) (is-minus (is-pos (t / 86_400)) (is-pos 5)) (omega arith)
+
+  local-minute-is : localMinute d m arc ≡ t / 60 % 1_440
+  unfolding localMinute
+  local-minute-is = mod-is 5 1_440 (omega arith) minutes-is
+
+-- ---- the answer
+
+pub local-bad-day : (d : ℤ) (m : ℕ) (arc : ℤ) {k : ℕ} → refused k ≡ dayIndex d → refused 2 ≡ localAnswer d m arc
+unfolding localAnswer
+local-bad-day d m arc e = rw (day-out d e) refl
+
+module _ (d : ℤ) (m : ℕ) (arc : ℤ) {j : ℕ} (i : Inside 4 370 d j) where
+  pub local-bad-minute : 1_439 < m → refused 2 ≡ localAnswer d m arc
+  unfolding localAnswer
+  local-bad-minute b = rw (i .test, lt-yes b) refl
+
+  pub local-bad-longitude : m ≤ 1_439 → badLongitude arc ≡ true → refused 4 ≡ localAnswer d m arc
+  unfolding localAnswer
+  local-bad-longitude g b = rw (i .test, lt-no g, b) refl
+
+  pub local-is : (t : ℕ) {day : ℤ} → m ≤ 1_439 → badLongitude arc ≡ false
+      → pos t ≡ pos (j * 86_400 + m * 60 + 86_400) +ℤ clockOfArc arc → day ≡ pos (t / 86_400) -ℤ pos 5
+      → value (record { dayThere = day; minuteThere = t / 60 % 1_440 }) ≡ localAnswer d m arc
+  unfolding localAnswer
+  local-is t g h e f = rw (i .test, lt-no g, h, local-day-is d m arc j t (i .is) e, local-minute-is d m arc j t (i .is) e, f) refl
