@@ -14,3 +14,4 @@ pub mod Places
 pub mod InOrder
 pub mod WorkedTerms
 pub mod LocalTime
+pub mod HeldFast

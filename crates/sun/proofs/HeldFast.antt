@@ -1,0 +1,71 @@
+-- Each public function's promise holds its answer fast. Assumes nothing.
+use mathlib.Core.Path.{_≡_, refl, ap, ap₂}
+use mathlib.Core.List.{List, [], _∷_, map}
+use Prim.Native.Nat.{ℕ}
+use Rattle.law.specs.Answer.{Answer, value, refused}
+use Rattle.law.specs.Document.{YearValues, TermValues}
+use Rattle.law.proofs.HeldFast.{Held, by-facts, one, one-said}
+use Rattle.units.specs.Said.{saidNumber, saidSigned}
+use Rattle.units.proofs.HeldFast.{refusalOf, refusal-back, numberFrom, number-back, signedFrom, signed-back}
+use Rattle.sun.specs.declared.year.YearAnswer.{YearAnswer}
+use Rattle.sun.specs.declared.year.YearAnswer.the-variants as year
+use Rattle.sun.specs.declared.term.TermRecord.{TermRecord}
+use Rattle.sun.specs.declared.term.TermAnswer.{TermAnswer}
+use Rattle.sun.specs.declared.term.TermAnswer.the-variants as term
+use Rattle.sun.specs.declared.term.Listed.{Listed}
+use Rattle.sun.specs.declared.term.Listed.the-variants as listed
+use Rattle.sun.specs.declared.term.YearTerms.{YearTerms}
+use Rattle.sun.specs.Said.{saidYear, valuesOf, saidTerm, saidListed, termsListed, saidTerms, heldTerms}
+use Rattle.sun.proofs.year.year_of as year-of
+use Rattle.sun.proofs.equation.equation_at as equation-at
+use Rattle.sun.proofs.place.mean_place as mean-place
+use Rattle.sun.proofs.place.true_place as true-place
+use Rattle.sun.proofs.place.run_on_place as run-on-place
+use Rattle.sun.proofs.term.term_of as term-of
+use Rattle.sun.proofs.term.terms_of as terms-of
+
+-- ---- the readings of answers can be taken back
+
+abbrev yearFrom : Answer YearValues → YearAnswer
+yearFrom (value v) =
+    year.Is (record { «day_name» = v .solsticeDay; fraction = v .solsticeFraction; mansion = v .dutyMansion; root = v .yearRoot })
+yearFrom (refused k) = year.Refused (refusalOf k)
+
+year-back : (r : YearAnswer) → yearFrom (saidYear r) ≡ r
+year-back (year.Is v) = refl
+year-back (year.Refused r) = ap year.Refused (refusal-back r)
+
+abbrev recordFrom : TermValues → TermRecord
+recordFrom v = record { day = v .dayOfTerm; minute = v .minuteOfTerm; count = v .midnights }
+
+abbrev termFrom : Answer TermValues → TermAnswer
+termFrom (value v) = term.Is (recordFrom v)
+termFrom (refused k) = term.Refused (refusalOf k)
+
+term-back : (r : TermAnswer) → termFrom (saidTerm r) ≡ r
+term-back (term.Is v) = refl
+term-back (term.Refused r) = ap term.Refused (refusal-back r)
+
+records-back : (l : List TermRecord) → map recordFrom (map valuesOf l) ≡ l
+records-back [] = refl
+records-back (x ∷ xs) = ap (λ (r : List TermRecord). x ∷ r) (records-back xs)
+
+-- ---- the functions
+
+pub year-of-held : Held year-of.ended (λ M. year-of.clauses {M = M})
+year-of-held M 𝓤 H A mem run κs a z z′ w w′ g g′ = by-facts 𝓤 (λ p q. (one-said saidYear yearFrom year-back p q, refl))
+
+pub equation-at-held : Held equation-at.ended (λ M. equation-at.clauses {M = M})
+equation-at-held M 𝓤 H A mem run κs a z z′ w w′ g g′ = by-facts 𝓤 (λ p q. (one-said saidSigned signedFrom signed-back p q, refl))
+
+pub mean-place-held : Held mean-place.ended (λ M. mean-place.clauses {M = M})
+mean-place-held M 𝓤 H A mem run κs a z z′ w w′ g g′ = by-facts 𝓤 (λ p q. (one-said saidNumber numberFrom number-back p q, refl))
+
+pub true-place-held : Held true-place.ended (λ M. true-place.clauses {M = M})
+true-place-held M 𝓤 H A mem run κs a z z′ w w′ g g′ = by-facts 𝓤 (λ p q. (one-said saidNumber numberFrom number-back p q, refl))
+
+pub run-on-place-held : Held run-on-place.ended (λ M. run-on-place.clauses {M = M})
+run-on-place-held M 𝓤 H A mem run κs a z z′ w w′ g g′ = by-facts 𝓤 (λ p q. (one-said saidSigned signedFrom signed-back p q, refl))
+
+pub term-of-held : Held term-of.ended (λ M. term-of.clauses {M = M})
+term-of-held M 𝓤 H A mem run κs a z z′ w w′ g g′ = by-facts 𝓤 (λ p q. (one-said saidTerm termFrom term-back p q, refl))
