@@ -1,28 +1,26 @@
 // Every entry of the two tables.
+use crate::each::Line;
+use crate::each::each;
 use crate::print::number;
 use crate::print::text;
 
-fn line(name: &[u8], seat: usize, entry: u64) {
-    text(name);
-    number(seat as u64);
+pub(crate) fn sine(k: u64) {
+    text(b"sine ");
+    number(k);
     text(b" ");
-    number(entry);
+    number(tables::sine_entry(k as usize));
     text(b"\n");
 }
 
-fn sines() {
-    for k in 0..541usize {
-        line(b"sine ", k, tables::sine_entry(k));
-    }
-}
-
-fn tangents() {
-    for m in 0..131usize {
-        line(b"tangent ", m, tables::tangent_entry(m));
-    }
+pub(crate) fn tangent(m: u64) {
+    text(b"tangent ");
+    number(m);
+    text(b" ");
+    number(tables::tangent_entry(m as usize));
+    text(b"\n");
 }
 
 pub(crate) fn lines() {
-    sines();
-    tangents();
+    each(Line::Sine, 0, 541);
+    each(Line::Tangent, 0, 131);
 }

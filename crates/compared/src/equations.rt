@@ -1,5 +1,7 @@
 // Equations of centre: source 004's three figures, the joints of the circle, the ends of the type,
 // every table entry's arc, and a spread.
+use crate::each::Line;
+use crate::each::each;
 use crate::print::less;
 use crate::print::number;
 use crate::print::refused;
@@ -50,41 +52,37 @@ fn beside_004(degrees: u8, printed: u32) {
     }
 }
 
-fn joint(quarters: u64)
-    requires { ⌜ quarters ≤ 10 ⌝ }
+// At and beside a joint of the circle, from five quarters below 0 on.
+pub(crate) fn joint(quarters: u64)
+    requires { ⌜ quarters ≤ 5_000 ⌝ }
 {
     line(less(quarters * QUARTER, 5 * QUARTER + 1));
     line(less(quarters * QUARTER, 5 * QUARTER));
     line(less(quarters * QUARTER + 1, 5 * QUARTER));
 }
 
-fn joints() {
-    for quarters in 0..11u64 {
-        joint(quarters);
-    }
+// The arc of a table entry.
+pub(crate) fn arc(k: u64)
+    requires { ⌜ k ≤ 5_000 ⌝ }
+{
+    line(less(k * 36_000_000_000, 0));
 }
 
-fn entries() {
-    for k in 0..541u64 {
-        line(less(k * 36_000_000_000, 0));
-    }
-}
-
-fn spread() {
-    for i in 0..2_000u64 {
-        line(less(i * 77_777_777_777, 40_000_000_000_000));
-    }
+pub(crate) fn spread(i: u64)
+    requires { ⌜ i ≤ 5_000 ⌝ }
+{
+    line(less(i * 77_777_777_777, 40_000_000_000_000));
 }
 
 pub(crate) fn lines() {
     beside_004(30, 225_258);
     beside_004(90, 443_380);
     beside_004(140, 281_213);
-    joints();
+    each(Line::Joint, 0, 11);
     line(-9_223_372_036_854_775_808);
     line(-9_223_372_036_854_775_807);
     line(9_223_372_036_854_775_806);
     line(9_223_372_036_854_775_807);
-    entries();
-    spread();
+    each(Line::Arc, 0, 541);
+    each(Line::Spread, 0, 2_000);
 }

@@ -1,9 +1,12 @@
 // Mean, true and run-on places over years and days, with their limits.
+use crate::each::Line;
+use crate::each::each;
 use crate::print::less;
 use crate::print::number_answer;
 use crate::print::signed;
 use crate::print::signed_answer;
 use crate::print::text;
+ghost use Prim.Native.Nat.{_≤_};
 
 const LEAST: i64 = -9_223_372_036_854_775_808;
 
@@ -23,10 +26,11 @@ fn line(n: i64, d: i64) {
     text(b"\n");
 }
 
-fn every_eleventh(n: i64) {
-    for i in 0..33u64 {
-        line(n, less(7 + 11 * i, 0));
-    }
+// Every eleventh day from 7 on.
+pub(crate) fn eleventh(n: i64, i: u64)
+    requires { ⌜ i ≤ 5_000 ⌝ }
+{
+    line(n, less(7 + 11 * i, 0));
 }
 
 fn year(n: i64) {
@@ -37,7 +41,7 @@ fn year(n: i64) {
     line(n, -1);
     line(n, 0);
     line(n, 1);
-    every_eleventh(n);
+    each(Line::Place, n, 33);
     line(n, 369);
     line(n, 370);
     line(n, 371);

@@ -1,4 +1,6 @@
 // The 24 terms of every twentieth year, one by one and as a year's list; and their refusals.
+use crate::each::Line;
+use crate::each::each;
 use crate::print::less;
 use crate::print::number;
 use crate::print::refused;
@@ -7,6 +9,7 @@ use crate::print::text;
 use sun::Listed;
 use sun::TermAnswer;
 use sun::TermRecord;
+ghost use Prim.Native.Nat.{_≤_};
 
 fn head(n: i64, k: u64) {
     text(b"term ");
@@ -37,15 +40,17 @@ fn line(n: i64, k: u64) {
     }
 }
 
-fn year(n: i64) {
-    for k in 0..24u64 {
-        line(n, k);
-    }
+// The 24 terms of every twentieth year from -2,000 on, one after the other.
+pub(crate) fn of_twentieth(i: u64)
+    requires { ⌜ i ≤ 5_000 ⌝ }
+{
+    line(less(20 * (i / 24), 2_000), i % 24);
 }
 
-fn every_twentieth() {
-    for i in 0..201u64 {
-        year(less(20 * i, 2_000));
+fn records(n: i64, at: [TermRecord; 24]) {
+    for k in 0..24usize {
+        head(n, k as u64);
+        values(at[k]);
     }
 }
 
@@ -63,14 +68,11 @@ fn list(n: i64) {
     signed(n);
     text(b"\n");
     let at = terms.at;
-    for k in 0..24usize {
-        head(n, k as u64);
-        values(at[k]);
-    }
+    records(n, at);
 }
 
 pub(crate) fn lines() {
-    every_twentieth();
+    each(Line::Term, 0, 24 * 201);
     line(-2_001, 0);
     line(2_001, 23);
     line(-2_001, 24);

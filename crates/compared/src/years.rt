@@ -1,4 +1,6 @@
 // Mean solstices, mansions and roots; and source 003's three solstices.
+use crate::each::Line;
+use crate::each::each;
 use crate::print::less;
 use crate::print::number;
 use crate::print::refused;
@@ -7,6 +9,7 @@ use crate::print::text;
 use crate::print::two_digits;
 use sun::Year;
 use sun::YearAnswer;
+ghost use Prim.Native.Nat.{_≤_};
 
 fn values(year: Year) {
     text(b"day name ");
@@ -57,10 +60,11 @@ fn beside_003(n: i64, printed: &[u8]) {
     text(b"\n");
 }
 
-fn every_twentieth() {
-    for i in 0..201u64 {
-        line(less(20 * i, 2_000));
-    }
+// Every twentieth year from -2,000 on.
+pub(crate) fn twentieth(i: u64)
+    requires { ⌜ i ≤ 5_000 ⌝ }
+{
+    line(less(20 * i, 2_000));
 }
 
 fn chosen() {
@@ -80,7 +84,7 @@ pub(crate) fn lines() {
     line(-9_223_372_036_854_775_808);
     line(-2_002);
     line(-2_001);
-    every_twentieth();
+    each(Line::Year, 0, 201);
     line(2_001);
     line(2_002);
     line(9_223_372_036_854_775_807);

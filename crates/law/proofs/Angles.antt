@@ -4,8 +4,8 @@ use Prim.Native.Nat.{ℕ, zero, suc, _+_, _*_, _-_, _/_, _≤_, _<_}
 use native.Mathlib.Decide.{decLe, decLt}
 use native.Mathlib.Nat.{div-lt-iff-lt-mul, div-zero}
 use native.Mathlib.Omega.{arith}
-use Rattle.tables.specs.Entry.{lastTangent, tangentEntry}
-use Rattle.tables.proofs.Rules.{tangent-first, tangent-step, tangent-run, tangent-range, tangent-past}
+use Rattle.law.specs.Entry.{lastTangent, tangentEntry}
+use Rattle.law.proofs.Rules.{tangent-first, tangent-step, tangent-run, tangent-range, tangent-past}
 use Rattle.law.specs.Answer.{Answer, value, refused}
 use Rattle.law.specs.Document.{minute, lastMinute, anglePast, angle}
 use Rattle.law.specs.Working.{angleAnswer}

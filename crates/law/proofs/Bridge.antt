@@ -7,7 +7,7 @@ use native.Mathlib.Decide.{decLt, decLe}
 use native.Mathlib.Omega.{arith}
 use lib.Dec.{leb}
 use lib.IntN.{ℤ, pos, negℤ, _+ℤ_, _-ℤ_, _*ℤ_}
-use Rattle.tables.specs.Entry.{lastTangent}
+use Rattle.law.specs.Entry.{lastTangent}
 use Rattle.law.specs.Round.{halfUp, floorDiv, floorMod}
 use Rattle.law.specs.Document.{circle, half, quarter, minute, day, yearLength, dailyMotion, perigeeYearly, perigeeDaily, perigeeEpoch, dayEpoch, mansionEpoch, radius, solstice, dayName, fraction, mansion, root, meanPlace, perigee, inCircle, anomaly, mirrored, folded, sine, cosine, height, base, longSide, tangent, angle, equation, runOnPlace}
 use Rattle.law.specs.Working.{liftDays, solsticeOf, rootFrom, rootOf, heightOf, baseOf, nearOf, farOf, tangentOf, angleAnswer, sizeAnswer, added, taken, gain, anomalyOf, headroom, lift, placeOf}

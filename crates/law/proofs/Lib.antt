@@ -1,3 +1,5 @@
+pub mod Every
+pub mod Rules
 pub mod Marked
 pub mod Choice
 pub mod Answers

@@ -3,9 +3,9 @@
 use mathlib.Core.Path.{_≡_, refl}
 use Prim.Native.Nat.{ℕ, _+_, _*_}
 use lib.IntN.{pos, negℤ}
-use Rattle.tables.specs.Sines.{sines}
-use Rattle.tables.specs.Tangents.{tangents}
-use Rattle.tables.specs.Entry.{sineEntry, tangentEntry}
+use Rattle.law.specs.Sines.{sines}
+use Rattle.law.specs.Tangents.{tangents}
+use Rattle.law.specs.Entry.{sineEntry, tangentEntry}
 use Rattle.law.specs.Round.{halfUp, halfUpOnSize, floorDiv, floorMod}
 use Rattle.law.specs.Document.{second, minute, degree, circle, day, yearLength, dailyMotion, perigeeYearly, perigeeDaily, perigeeEpoch, epicycles, solstice, dayName, fraction, root, mirrored, folded, between, sine, cosine, height, base, longSide, tangent, lastMinute, anglePast, angle, equation, clockOfArc, localMinutes, localDay, localMinute}
 

@@ -4,8 +4,8 @@ use Prim.Native.Nat.{ℕ, zero, _+_, _*_, _-_, _/_, _%_, _^_, _≤_, _<_}
 use native.Mathlib.Decide.{decLt}
 use native.Mathlib.Nat.{mul-zero, mul-le-mul, mul-le-mul-left, div-lt-iff-lt-mul}
 use native.Mathlib.Omega.{arith}
-use Rattle.tables.specs.Entry.{lastSine, sineEntry}
-use Rattle.tables.proofs.Rules.{sine-step, sine-top, sine-ends}
+use Rattle.law.specs.Entry.{lastSine, sineEntry}
+use Rattle.law.proofs.Rules.{sine-step, sine-top, sine-ends}
 use Rattle.law.specs.Round.{halfUp}
 use Rattle.law.specs.Document.{tenMinutes, quarter, radius, epicycles, between, sine, cosine}
 use Rattle.law.specs.Working.{heightOf, baseOf}

@@ -3,9 +3,9 @@
 use mathlib.Core.Path.{_≡_, refl}
 use Prim.Native.Nat.{ℕ}
 use lib.IntN.{ℤ, pos, negℤ}
-use Rattle.tables.specs.Sines.{sines}
-use Rattle.tables.specs.Tangents.{tangents}
-use Rattle.tables.specs.Entry.{sineEntry, tangentEntry}
+use Rattle.law.specs.Sines.{sines}
+use Rattle.law.specs.Tangents.{tangents}
+use Rattle.law.specs.Entry.{sineEntry, tangentEntry}
 use Rattle.law.specs.Round.{halfUp, floorDiv, floorMod}
 use Rattle.law.specs.Document.{epicycles, solstice, fraction, root, meanPlace, perigee, inCircle, anomaly, mirrored, folded, between, sine, cosine, height, base, longSide, tangent, lastMinute, anglePast, angle, equation, runOnPlace, mark, start, visits, count, termDay, minuteOn, termMinute}
 

@@ -1,3 +1,6 @@
+pub mod Sines
+pub mod Tangents
+pub mod Entry
 pub mod Round
 pub mod Answer
 pub mod Document

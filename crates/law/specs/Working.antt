@@ -4,7 +4,7 @@ use mathlib.Core.Bool.{cond}
 use Prim.Native.Nat.{ℕ, zero, suc, _+_, _*_, _-_, _/_, _%_}
 use lib.Dec.{leb, ltb}
 use lib.IntN.{ℤ, pos, natAbs, _+ℤ_, _-ℤ_}
-use Rattle.tables.specs.Entry.{lastTangent, tangentEntry}
+use Rattle.law.specs.Entry.{lastTangent, tangentEntry}
 use Rattle.law.specs.Round.{halfUp}
 use Rattle.law.specs.Answer.{Answer, value, refusing}
 use Rattle.law.specs.Document.{degree, circle, half, quarter, day, yearLength, dailyMotion, perigeeYearly, perigeeDaily, perigeeEpoch, dayEpoch, radius, sine, cosine, tangent, angle, anomaly, runOnPlace, badYear, badDay, offTable, TermValues}

@@ -6,9 +6,9 @@ use native.Mathlib.Nat.{zero-div, le-div-iff-mul-le, div-lt-iff-lt-mul, lt-div-m
 use native.Mathlib.Decide.{decLt, decLe}
 use native.Mathlib.Omega.{arith}
 use lib.Dec.{lit≤}
-use Rattle.tables.specs.Tangents.{tangents}
-use Rattle.tables.specs.Entry.{lastTangent, tangentEntry}
-use Rattle.tables.proofs.Rules.{tangent-step}
+use Rattle.law.specs.Tangents.{tangents}
+use Rattle.law.specs.Entry.{lastTangent, tangentEntry}
+use Rattle.law.proofs.Rules.{tangent-step}
 use Rattle.law.specs.Document.{second, minute, half, epicycles, lastMinute, anglePast, angle}
 use Rattle.law.specs.Working.{tangentOf}
 use Rattle.law.proofs.Angles.{Last, last-minute, angle-at, angle-end, part-le}

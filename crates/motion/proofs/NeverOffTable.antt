@@ -4,8 +4,8 @@ use mathlib.Core.Bool.{false}
 use Prim.Native.Nat.{ℕ, _≤_}
 use native.Mathlib.Decide.{decLe}
 use native.Mathlib.Omega.{arith}
-use Rattle.tables.specs.Entry.{lastTangent, tangentEntry}
-use Rattle.tables.proofs.Rules.{tangent-range}
+use Rattle.law.specs.Entry.{lastTangent, tangentEntry}
+use Rattle.law.proofs.Rules.{tangent-range}
 use Rattle.law.specs.Document.{half, epicycles, mirrored, tangent, offTable}
 use Rattle.law.proofs.Choice.{lt-no}
 use Rattle.law.proofs.Bridge.{mirrored-low, mirrored-high, tangent-is}

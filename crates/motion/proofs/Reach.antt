@@ -6,10 +6,10 @@ use native.Mathlib.Nat.{mul-le-mul-left, div-lt-iff-lt-mul}
 use native.Mathlib.Decide.{decLt, decLe}
 use native.Mathlib.Omega.{arith}
 use lib.Dec.{leb, leb→le}
-use Rattle.tables.specs.Sines.{sines}
-use Rattle.tables.specs.Entry.{lastSine, sineEntry}
-use Rattle.tables.proofs.Every.{seat}
-use Rattle.tables.proofs.Rules.{sine-step}
+use Rattle.law.specs.Sines.{sines}
+use Rattle.law.specs.Entry.{lastSine, sineEntry}
+use Rattle.law.proofs.Every.{seat}
+use Rattle.law.proofs.Rules.{sine-step}
 use Rattle.law.specs.Round.{halfUp}
 use Rattle.law.specs.Document.{half, quarter, radius, epicycles, tenMinutes, sine, cosine}
 use Rattle.law.specs.Working.{heightOf, baseOf, nearOf, farOf, tangentOf}

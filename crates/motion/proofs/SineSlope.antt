@@ -4,10 +4,10 @@ use mathlib.Core.Bool.{Bool}
 use Prim.Native.Nat.{ℕ, _+_, _*_, _-_, _≤_, _<_}
 use native.Mathlib.Omega.{arith}
 use lib.Dec.{T, leb, leb→le}
-use Rattle.tables.specs.Sines.{sines}
-use Rattle.tables.specs.Entry.{lastSine, sineEntry}
-use Rattle.tables.proofs.Every.{every, seat}
-use Rattle.tables.proofs.Rules.{sine-step, sine-ends}
+use Rattle.law.specs.Sines.{sines}
+use Rattle.law.specs.Entry.{lastSine, sineEntry}
+use Rattle.law.proofs.Every.{every, seat}
+use Rattle.law.proofs.Rules.{sine-step, sine-ends}
 use Rattle.law.specs.Document.{quarter, radius, tenMinutes, sine}
 use Rattle.motion.proofs.Slope.{Gains, Steps, Climbs, between-entry, between-climbs}
 

@@ -5,8 +5,8 @@ use Prim.Native.Nat.{ℕ, _+_, _*_, _-_, _≤_, _<_}
 use native.Mathlib.Nat.{mul-le-mul-left, mul-le-mul-right}
 use native.Mathlib.Decide.{decLe}
 use native.Mathlib.Omega.{arith}
-use Rattle.tables.specs.Sines.{sines}
-use Rattle.tables.specs.Entry.{lastSine, sineEntry}
+use Rattle.law.specs.Sines.{sines}
+use Rattle.law.specs.Entry.{lastSine, sineEntry}
 use Rattle.law.specs.Round.{halfUp}
 use Rattle.law.specs.Document.{quarter, radius, epicycles, tenMinutes, between, sine, cosine, angle}
 use Rattle.law.specs.Working.{heightOf, baseOf, nearOf, farOf}

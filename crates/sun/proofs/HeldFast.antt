@@ -1,9 +1,8 @@
 -- Each public function's promise holds its answer fast. Assumes nothing.
-use mathlib.Core.Path.{_≡_, refl, ap, ap₂}
+use mathlib.Core.Path.{_≡_, refl, ap, ap₂, sym, _∙_}
 use mathlib.Core.List.{List, [], _∷_, map}
-use Prim.Native.Nat.{ℕ}
 use Rattle.law.specs.Answer.{Answer, value, refused}
-use Rattle.law.specs.Document.{YearValues, TermValues}
+use Rattle.law.specs.Document.{epicycles, YearValues, TermValues, termsAnswer}
 use Rattle.law.proofs.HeldFast.{Held, by-facts, one, one-said}
 use Rattle.units.specs.Said.{saidNumber, saidSigned}
 use Rattle.units.proofs.HeldFast.{refusalOf, refusal-back, numberFrom, number-back, signedFrom, signed-back}
@@ -69,3 +68,23 @@ run-on-place-held M 𝓤 H A mem run κs a z z′ w w′ g g′ = by-facts 𝓤 
 
 pub term-of-held : Held term-of.ended (λ M. term-of.clauses {M = M})
 term-of-held M 𝓤 H A mem run κs a z z′ w w′ g g′ = by-facts 𝓤 (λ p q. (one-said saidTerm termFrom term-back p q, refl))
+
+-- the year's list: its answer by the first promise, its records by the second
+abbrev listedFrom : Answer (List TermValues) → Listed
+listedFrom (value l) = listed.All
+listedFrom (refused k) = listed.Refused (refusalOf k)
+
+listed-back : (r : Listed) (l : List TermValues) → listedFrom (saidListed r l) ≡ r
+listed-back listed.All l = refl
+listed-back (listed.Refused r) l = ap listed.Refused (refusal-back r)
+
+one-list : (z z′ : YearTerms) (s : Answer (List TermValues)) → (saidTerms z ≡ s) × (termsListed z ≡ heldTerms s)
+    → (saidTerms z′ ≡ s) × (termsListed z′ ≡ heldTerms s) → z ≡ z′
+one-list z z′ s p q =
+    let answers : z .answer ≡ z′ .answer =
+    sym (listed-back (z .answer) (termsListed z)) ∙ (ap listedFrom (one (p .0) (q .0)) ∙ listed-back (z′ .answer) (termsListed z′)) in
+    let records : z .at ≡ z′ .at = sym (records-back (z .at)) ∙ (ap (map recordFrom) (one (p .1) (q .1)) ∙ records-back (z′ .at)) in
+    ap₂ (λ (a : Listed) (l : List TermRecord). record { answer = a; at = l }) answers records
+
+pub terms-of-held : Held terms-of.ended (λ M. terms-of.clauses {M = M})
+terms-of-held M 𝓤 H A mem run κs a z z′ w w′ g g′ = by-facts 𝓤 (λ p q. (one-list z z′ (termsAnswer epicycles (a .0)) p q, refl))

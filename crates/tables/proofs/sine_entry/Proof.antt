@@ -2,9 +2,9 @@
 use mathlib.Core.Path.{refl, sym}
 use borrow.Author.Needs.{needs}
 use native.Mathlib.Omega.{arith}
-use Rattle.tables.specs.Sines.{sines}
-use Rattle.tables.specs.Entry.{sineEntry}
-use Rattle.tables.proofs.Rules.{sine-past}
+use Rattle.law.specs.Sines.{sines}
+use Rattle.law.specs.Entry.{sineEntry}
+use Rattle.law.proofs.Rules.{sine-past}
 use Rattle.tables.proofs.sine_entry.Statement.{statement}
 use Rattle.tables.proofs.sine_entry.Tie as tie
 

@@ -2,9 +2,9 @@
 use mathlib.Core.Path.{refl, sym}
 use borrow.Author.Needs.{needs}
 use native.Mathlib.Omega.{arith}
-use Rattle.tables.specs.Tangents.{tangents}
-use Rattle.tables.specs.Entry.{tangentEntry}
-use Rattle.tables.proofs.Rules.{tangent-past}
+use Rattle.law.specs.Tangents.{tangents}
+use Rattle.law.specs.Entry.{tangentEntry}
+use Rattle.law.proofs.Rules.{tangent-past}
 use Rattle.tables.proofs.tangent_entry.Statement.{statement}
 use Rattle.tables.proofs.tangent_entry.Tie as tie
 

@@ -3,8 +3,8 @@ use mathlib.Core.Path.{_≡_, ap, sym, _∙_}
 use Prim.Native.Nat.{ℕ, _+_, _/_, _≤_, _<_}
 use native.Mathlib.Omega.{arith}
 use borrow.Author.Needs.{needs}
-use Rattle.tables.specs.Entry.{lastTangent, tangentEntry}
-use Rattle.tables.proofs.Rules.{tangent-range}
+use Rattle.law.specs.Entry.{lastTangent, tangentEntry}
+use Rattle.law.proofs.Rules.{tangent-range}
 use Rattle.law.specs.Answer.{value}
 use Rattle.law.proofs.Angles.{Seat, seat, angle-refused, angle-last, angle-inside}
 use Rattle.sun.proofs.equation.angle_of.Statement.{statement}

@@ -1,8 +1,8 @@
 -- An entry of a table by its seat; 0 past the table's end. Assumes nothing.
 use Prim.Native.Nat.{ℕ}
 use lib.ListN.{getD}
-use Rattle.tables.specs.Sines.{sines}
-use Rattle.tables.specs.Tangents.{tangents}
+use Rattle.law.specs.Sines.{sines}
+use Rattle.law.specs.Tangents.{tangents}
 
 -- the last seat of each table: 90° in steps of 10′, and 130′
 abbrev pub lastSine : ℕ

@@ -1,0 +1,11 @@
+-- Each public function's promise holds its answer fast. Assumes nothing.
+use mathlib.Core.Path.{refl}
+use Rattle.law.proofs.HeldFast.{Held, by-facts, one}
+use Rattle.tables.proofs.sine_entry as sine-entry
+use Rattle.tables.proofs.tangent_entry as tangent-entry
+
+pub sine-entry-held : Held sine-entry.ended (λ M. sine-entry.clauses {M = M})
+sine-entry-held M 𝓤 H A mem run κs a z z′ w w′ g g′ = by-facts 𝓤 (λ p q. (one p q, refl))
+
+pub tangent-entry-held : Held tangent-entry.ended (λ M. tangent-entry.clauses {M = M})
+tangent-entry-held M 𝓤 H A mem run κs a z z′ w w′ g g′ = by-facts 𝓤 (λ p q. (one p q, refl))
