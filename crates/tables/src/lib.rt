@@ -6,7 +6,7 @@ mod tangents;
 use sines::SINES;
 use tangents::TANGENTS;
 ghost use mathlib.Core.Path.{_≡_};
-ghost use Rattle.tables.specs.Entry.{sineEntry, tangentEntry};
+ghost use Rattle.law.specs.Entry.{sineEntry, tangentEntry};
 
 // The sine at k times 10 minutes of arc, for the radius 10,000,000.
 pub fn sine_entry(k: usize) -> u64
