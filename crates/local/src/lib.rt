@@ -62,10 +62,10 @@ pub fn local_time(day: i64, minute: u64, longitude: ArcSeconds) -> LocalAnswer
         return LocalAnswer::Refused(Refusal::DayOrMinuteOutside);
     }
     let arc = longitude.seconds();
+    let clock = longitude.to_clock().seconds();
     if arc < -648_000 || arc > 648_000 {
         return LocalAnswer::Refused(Refusal::LongitudeBeyond);
     }
-    let clock = longitude.to_clock().seconds();
     let here = seconds_at(j, minute);
     let there = shifted(here, clock);
     // the seconds left over are cut off

@@ -30,26 +30,36 @@ day-inside c =
 
 -- ---- the longitude: what its arc and clock are, and what the two tests tell of it
 
-abbrev start : tie.After-seconds → tie.Start
-start c = c .before .before .before .before .before .before
+abbrev start : tie.After-seconds2 → tie.Start
+start c = c .before .before .before .before .before .before .before .before
 
-arc-fits : (c : tie.After-seconds) → SFits w64 (c .seconds .result)
-arc-fits c = sfits-of (c .seconds .ok)
+-- the arc and the clock as they stand in their locals
+arc-is : (c : tie.After-seconds2) → c .before .before .seconds .result ≡ start c .args .longitude .0
+arc-is c = c .before .before .seconds .ensures
+
+arc-fits : (c : tie.After-seconds2) → SFits w64 (c .before .before .seconds .result)
+arc-fits c = sfits-of (c .before .before .seconds .ok)
+
+clock-is : (c : tie.After-seconds2) → read w64 (c .seconds2 .result) ≡ clockOfArc (start c .args .longitude .0)
+clock-is c = toZ-ofZ (sfits-of (c .seconds2 .ok)) ∙ (c .seconds2 .ensures ∙ c .before .to-clock .ensures)
 
 beyond : (c : tie.Joined2) → badLongitude (start (c .before) .args .longitude .0) ≡ true
 beyond c =
-    let held : badLongitude (c .before .seconds .result) ≡ true =
+    let held : badLongitude (c .before .before .before .seconds .result) ≡ true =
     ⊎-elim (λ w. below w64 648_000 648_000 (arc-fits (c .before)) (w .taken)) (λ w. above w64 648_000 648_000 (arc-fits (c .before)) (w .1 .taken)) (c .if2 .came) in
-    subst (λ z. badLongitude z ≡ true) (c .before .seconds .ensures) held
+    subst (λ z. badLongitude z ≡ true) (arc-is (c .before)) held
 
 within : (c : tie.Else3) → badLongitude (start (c .before .before) .args .longitude .0) ≡ false
 within c =
     let i = inside w64 w64 648_000 648_000 (omega arith) (omega arith) (arc-fits (c .before .before)) (c .before .if2 .left) (c .if3 .left) in
-    subst (λ z. badLongitude z ≡ false) (c .before .before .seconds .ensures) (i .told)
+    subst (λ z. badLongitude z ≡ false) (arc-is (c .before .before)) (i .told)
 
--- the clock as it reaches `shifted`
-clock-is : (c : tie.After-seconds2) → read w64 (c .seconds2 .result) ≡ clockOfArc (start (c .before .before .before .before) .args .longitude .0)
-clock-is c = toZ-ofZ (sfits-of (c .seconds2 .ok)) ∙ (c .seconds2 .ensures ∙ c .before .to-clock .ensures)
+-- the day and the minute before the longitude was looked at
+here : (c : tie.After-seconds2) → Inside 4 370 (start c .args .day) (c .before .before .before .before .before .j .given .0 .0)
+here c = day-inside (c .before .before .before .before .before)
+
+minute-le : (c : tie.After-seconds2) → start c .args .minute ≤ 1_439
+minute-le c = c .before .before .before .if1 .left
 
 -- ---- what is left
 
@@ -76,27 +86,26 @@ returns-2 c =
 seconds-requires : tie.Need-seconds-requires
 seconds-requires c κs = search needs
 
-returns-3 : tie.Need-returns-3
-returns-3 c =
-    let s = start (c .before) in
-    local-bad-longitude (s .args .day) (s .args .minute) (s .args .longitude .0) (day-inside (c .before .before .before .before))
-    (c .before .before .if1 .left) (beyond c)
-
 to-clock-requires : tie.Need-to-clock-requires
 to-clock-requires c κs = search needs
 
 seconds-requires-2 : tie.Need-seconds-requires-2
 seconds-requires-2 c κs = search needs
 
+returns-3 : tie.Need-returns-3
+returns-3 c =
+    let s = start (c .before) in
+    local-bad-longitude (s .args .day) (s .args .minute) (s .args .longitude .0) (here (c .before)) (minute-le (c .before)) (beyond c)
+
 seconds-at-requires : tie.Need-seconds-at-requires
-seconds-at-requires c κs = omega (arith, day-inside (c .before .before .before .before .before .before .before) .most)
+seconds-at-requires c κs = (here (c .before .before) .most, minute-le (c .before .before))
 
 shifted-requires : tie.Need-shifted-requires
 shifted-requires c κs =
-    let arc = start (c .before .before .before .before .before) .args .longitude .0 in (
+    let at = c .before .before .before in (
       omega arith,
       omega arith,
-      subst (λ z. natAbs z ≤ 43_200) (sym (clock-is (c .before))) (half-a-day arc (within (c .before .before .before))),
+      subst (λ z. natAbs z ≤ 43_200) (sym (clock-is at)) (half-a-day (start at .args .longitude .0) (within (c .before))),
     )
 
 day-at-requires : tie.Need-day-at-requires
@@ -104,12 +113,11 @@ day-at-requires c κs = search needs
 
 returns-4 : tie.Need-returns-4
 returns-4 c =
-    let e = c .before .before .before .before .before in
-    let s = start (e .before .before) in
-    let i = day-inside (e .before .before .before .before .before) in
-    let there = c .before .shifted .result in
-    local-is (s .args .day) (s .args .minute) (s .args .longitude .0) i there (e .before .before .before .if1 .left) (within e)
-    (c .before .shifted .ensures .0 ∙ ap₂ (λ h z. pos h +ℤ z) (c .before .before .seconds-at .ensures .0) (clock-is (c .before .before .before)))
+    let e = c .before .before .before in
+    let at = e .before .before in
+    let s = start at in
+    local-is (s .args .day) (s .args .minute) (s .args .longitude .0) (here at) (c .before .shifted .result) (minute-le at) (within e)
+    (c .before .shifted .ensures .0 ∙ ap₂ (λ h z. pos h +ℤ z) (c .before .before .seconds-at .ensures .0) (clock-is at))
     (toZ-ofZ (sfits-of (c .day-at .ok)) ∙ c .day-at .ensures)
 
 pub local-time-spec : {M : Type 1} → statement M
@@ -122,9 +130,9 @@ local-time-spec =
     returns
     returns-2
     seconds-requires
-    returns-3
     to-clock-requires
     seconds-requires-2
+    returns-3
     seconds-at-requires
     shifted-requires
     day-at-requires
