@@ -5,8 +5,8 @@ use native.Mathlib.Decide.{decLe, decLt}
 use native.Mathlib.Nat.{div-lt-iff-lt-mul, div-zero}
 use native.Mathlib.Omega.{arith}
 use Rattle.law.specs.Entry.{lastTangent, tangentEntry}
-use Rattle.law.proofs.Rules.{tangent-first, tangent-step, tangent-run, tangent-range, tangent-past}
-use Rattle.law.specs.Answer.{Answer, value, refused}
+use Rattle.law.proofs.Rules.{tangent-first, tangent-run, tangent-range, tangent-past}
+use Rattle.law.specs.Answer.{value, refused}
 use Rattle.law.specs.Document.{minute, lastMinute, anglePast, angle}
 use Rattle.law.specs.Working.{angleAnswer}
 use Rattle.law.proofs.Choice.{lt-yes, lt-no, le-yes, le-no}

@@ -3,7 +3,7 @@
 use mathlib.Core.Path.{_≡_, refl}
 use Prim.Native.Nat.{ℕ, _≤_, _<_}
 use lib.IntN.{ℤ, pos, negℤ}
-use Rattle.law.specs.Answer.{Answer, value, refused}
+use Rattle.law.specs.Answer.{value, refused}
 use Rattle.law.specs.Document.{half, inCircle, tangent, angle, equation, offTable, equationAnswer}
 use Rattle.law.specs.Working.{sizeAnswer}
 use Rattle.law.proofs.Choice.{lt-yes, lt-no}

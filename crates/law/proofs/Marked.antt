@@ -1,7 +1,7 @@
 -- Document 01, "Proved and compared": its table of marked cases as one statement, over the definitions that the contracts cite.
 -- And its table of constants: what it gives in two ways is one number. Assumes nothing.
 use mathlib.Core.Path.{_≡_, refl}
-use Prim.Native.Nat.{ℕ, _+_, _*_}
+use Prim.Native.Nat.{_+_, _*_}
 use lib.IntN.{pos, negℤ}
 use Rattle.law.specs.Sines.{sines}
 use Rattle.law.specs.Tangents.{tangents}

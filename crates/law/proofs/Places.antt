@@ -4,7 +4,7 @@ use Prim.Native.Nat.{ℕ, _+_, _*_, _-_, _%_, _≤_, _<_}
 use native.Mathlib.Omega.{arith}
 use lib.IntN.{ℤ, pos, natAbs, _+ℤ_}
 use Rattle.law.specs.Round.{floorMod}
-use Rattle.law.specs.Answer.{Answer, value, refused}
+use Rattle.law.specs.Answer.{value, refused}
 use Rattle.law.specs.Document.{circle, half, dailyMotion, inCircle, anomaly, tangent, angle, runOnPlace, badYear, badDay, offTable, meanAnswer, trueAnswer, runOnAnswer}
 use Rattle.law.specs.Working.{rootOf, sizeAnswer, added, taken, anomalyOf, headroom, lift, placeOf, placeAnswer, liftedAnswer}
 use Rattle.law.proofs.Choice.{lt-yes, lt-no}

@@ -1,11 +1,11 @@
 -- A sine between two entries: what the code that works it out asks, its bound, and the bounds of height and base. Assumes nothing.
-use mathlib.Core.Path.{_≡_, refl, ap}
-use Prim.Native.Nat.{ℕ, zero, _+_, _*_, _-_, _/_, _%_, _^_, _≤_, _<_}
+use mathlib.Core.Path.{_≡_, refl}
+use Prim.Native.Nat.{ℕ, _+_, _*_, _-_, _/_, _%_, _^_, _≤_, _<_}
 use native.Mathlib.Decide.{decLt}
-use native.Mathlib.Nat.{mul-zero, mul-le-mul, mul-le-mul-left, div-lt-iff-lt-mul}
+use native.Mathlib.Nat.{mul-zero, mul-le-mul, mul-le-mul-left}
 use native.Mathlib.Omega.{arith}
 use Rattle.law.specs.Entry.{lastSine, sineEntry}
-use Rattle.law.proofs.Rules.{sine-step, sine-top, sine-ends}
+use Rattle.law.proofs.Rules.{sine-step, sine-top}
 use Rattle.law.specs.Round.{halfUp}
 use Rattle.law.specs.Document.{tenMinutes, quarter, radius, epicycles, between, sine, cosine}
 use Rattle.law.specs.Working.{heightOf, baseOf}

@@ -1,7 +1,7 @@
 -- Document 01 as definitions, its sections in its order and words: hold the two side by side.
 -- N is the years elapsed from 1684 and d a day, signed. An angle is in whole units, and a place may be below 0 or past the circle.
 -- Assumes nothing.
-use mathlib.Core.Bool.{Bool, true, false, cond, _||_}
+use mathlib.Core.Bool.{Bool, false, cond, _||_}
 use mathlib.Core.List.{List, [], _∷_}
 use Prim.Native.Nat.{ℕ, zero, suc, _+_, _*_, _-_, _/_, _%_}
 use lib.Dec.{leb, ltb}
@@ -17,6 +17,7 @@ use Rattle.law.specs.Answer.{Answer, value, refusing}
 abbrev pub second : ℕ
 second = 60_000_000
 
+-- sixty seconds, and sixty minutes, as the document writes ′ and °
 abbrev pub minute : ℕ
 minute = 60 * second
 
@@ -27,6 +28,7 @@ degree = 60 * minute
 abbrev pub circle : ℕ
 circle = 1_296_000 * second
 
+-- the half circle and the quarter
 abbrev pub half : ℕ
 half = circle / 2
 
@@ -65,10 +67,11 @@ dayEpoch = 7 * day + 656_374_926
 abbrev pub mansionEpoch : ℕ
 mansionEpoch = 5 * day + 656_374_926
 
+-- radius, 10,000,000
 abbrev pub radius : ℕ
 radius = 10_000_000
 
--- the difference of the two epicycles
+-- the difference of the epicycles, 268,812 and 89,604
 abbrev pub epicycles : ℕ
 epicycles = 268_812 - 89_604
 
@@ -82,6 +85,7 @@ solstice N = pos dayEpoch +ℤ N *ℤ pos yearLength
 unfoldable pub dayName : ℤ → ℕ
 dayName N = floorMod (floorDiv (solstice N) day) 60
 
+-- the solstice's fraction of a day
 unfoldable pub fraction : ℤ → ℕ
 fraction N = floorMod (solstice N) day
 
@@ -111,10 +115,11 @@ anomaly N d = inCircle (meanPlace N d -ℤ perigee N d)
 
 -- ======== Sines, tangents, equation of centre: a is an anomaly in the circle, e the difference of the epicycles
 
--- mirrored past the half circle (circle − anomaly), then past the quarter (half circle − it)
+-- the anomaly is mirrored past the half circle (circle − anomaly)
 unfoldable pub mirrored : ℕ → ℕ
 mirrored a = cond (leb a half) a (circle - a)
 
+-- then past the quarter (half circle − it)
 unfoldable pub folded : ℕ → ℕ
 folded a = cond (leb (mirrored a) quarter) (mirrored a) (half - mirrored a)
 
@@ -127,17 +132,19 @@ unfoldable pub between : (ℕ → ℕ) → ℕ → ℕ
 between entry x =
     entry (x / tenMinutes) + (entry (x / tenMinutes + 1) - entry (x / tenMinutes)) * (x % tenMinutes) / tenMinutes
 
--- the sine of an arc up to a quarter circle; the cosine is the sine of the complement
+-- the sine of an arc up to a quarter circle
 unfoldable pub sine : ℕ → ℕ
 sine x = between sineEntry x
 
+-- the cosine is the sine of the complement
 unfoldable pub cosine : ℕ → ℕ
 cosine x = sine (quarter - x)
 
--- 1. height = 179,208 × sine / radius; base = 179,208 × cosine / radius; half or more rounds up in both
+-- 1. height = 179,208 × sine / radius, half or more rounds up
 unfoldable pub height : ℕ → ℕ → ℕ
 height e a = halfUp (e * sine (folded a)) radius
 
+-- base = 179,208 × cosine / radius, half or more rounds up
 unfoldable pub base : ℕ → ℕ → ℕ
 base e a = halfUp (e * cosine (folded a)) radius
 
@@ -158,6 +165,7 @@ lastMinute t (suc n) = cond (leb (tangentEntry (suc n)) t) (suc n) (lastMinute t
 unfoldable pub anglePast : ℕ → ℕ → ℕ
 anglePast m t = m * minute + (t - tangentEntry m) * minute / (tangentEntry (m + 1) - tangentEntry m)
 
+-- the minute whose entry is the last not above the tangent, with that part
 unfoldable pub angle : ℕ → ℕ
 angle t = anglePast (lastMinute t lastTangent) t
 
@@ -197,6 +205,7 @@ unfoldable pub minuteOn : ℕ → ℤ → ℤ → ℤ → ℕ
 minuteOn e N mark d =
     1_440 * natAbs (mark -ℤ runOnPlace e N d) / natAbs (runOnPlace e N (d +ℤ pos 1) -ℤ runOnPlace e N d)
 
+-- on the term's own day
 unfoldable pub termMinute : ℕ → ℤ → ℕ → ℕ
 termMinute e N k = minuteOn e N (mark k) (termDay e N k)
 
@@ -212,11 +221,13 @@ localMinutes d m arc = floorDiv ((d *ℤ pos 1_440 +ℤ pos m) *ℤ pos 60 +ℤ 
 unfoldable pub localDay : ℤ → ℕ → ℤ → ℤ
 localDay d m arc = floorDiv (localMinutes d m arc) 1_440
 
+-- the minute of that day
 unfoldable pub localMinute : ℤ → ℕ → ℤ → ℕ
 localMinute d m arc = floorMod (localMinutes d m arc) 1_440
 
 -- ======== Refusal numbers
 
+-- a number below the least or above the most
 abbrev outside : ℤ → ℤ → ℤ → Bool
 outside least most z = ltZ z least || ltZ most z
 
@@ -224,10 +235,11 @@ outside least most z = ltZ z least || ltZ most z
 abbrev pub badYear : ℤ → Bool
 badYear N = outside (negℤ (pos 2_000)) (pos 2_000) N
 
--- 2: a day outside -4 to 370, or a minute above 1,439
+-- 2: a day outside -4 to 370
 abbrev pub badDay : ℤ → Bool
 badDay d = outside (negℤ (pos 4)) (pos 370) d
 
+-- 2: a minute above 1,439
 abbrev pub badMinute : ℕ → Bool
 badMinute m = ltb 1_439 m
 
@@ -243,70 +255,82 @@ badLongitude arc = outside (negℤ (pos 648_000)) (pos 648_000) arc
 abbrev pub offTable : ℕ → ℕ → Bool
 offTable e a = ltb (tangentEntry lastTangent) (tangent e a)
 
--- for a term, at any midnight visited from day d on
+-- for a term: such a tangent at any midnight visited from day d on
 unfoldable pub visitsOff : (ℤ → Bool) → (ℤ → ℤ) → ℤ → ℕ → ℤ → Bool
 visitsOff off place mark zero d = false
 visitsOff off place mark (suc left) d = off d || cond (ltZ mark (place d)) false (visitsOff off place mark left (d +ℤ pos 1))
 
+-- the midnights that the walk to term k visits
 abbrev pub offTerm : ℕ → ℤ → ℕ → Bool
 offTerm e N k = visitsOff (λ (d : ℤ). offTable e (anomaly N d)) (runOnPlace e N) (mark k) 8 (start N k)
 
 -- ======== What the calls answer, the refusals in their order
 
+-- day name and fraction of the mean solstice, duty mansion, root
 pub record YearValues : Type 0 where
   pub solsticeDay : ℕ
   pub solsticeFraction : ℕ
   pub dutyMansion : ℕ
   pub yearRoot : ℕ
 
+-- the year: 1
 unfoldable pub yearAnswer : ℤ → Answer YearValues
 yearAnswer N =
     refusing (badYear N) 1
     (value (record { solsticeDay = dayName N; solsticeFraction = fraction N; dutyMansion = mansion N; yearRoot = root N }))
 
--- any anomaly given directly is brought into the circle
+-- the equation: 5; an anomaly given directly is brought into the circle
 unfoldable pub equationAnswer : ℕ → ℤ → Answer ℤ
 equationAnswer e given = refusing (offTable e (inCircle given)) 5 (value (equation e (inCircle given)))
 
+-- the mean place at a midnight, brought into the circle: 1, 2
 unfoldable pub meanAnswer : ℤ → ℤ → Answer ℕ
 meanAnswer N d = refusing (badYear N) 1 (refusing (badDay d) 2 (value (inCircle (meanPlace N d))))
 
+-- the true place, brought into the circle: 1, 2, 5
 unfoldable pub trueAnswer : ℕ → ℤ → ℤ → Answer ℕ
 trueAnswer e N d =
     refusing (badYear N) 1 (refusing (badDay d) 2 (refusing (offTable e (anomaly N d)) 5 (value (inCircle (runOnPlace e N d)))))
 
+-- the true place, run-on: 1, 2, 5
 unfoldable pub runOnAnswer : ℕ → ℤ → ℤ → Answer ℤ
 runOnAnswer e N d =
     refusing (badYear N) 1 (refusing (badDay d) 2 (refusing (offTable e (anomaly N d)) 5 (value (runOnPlace e N d))))
 
--- day, minute, count
+-- a term: day, minute, count
 pub record TermValues : Type 0 where
   pub dayOfTerm : ℤ
   pub minuteOfTerm : ℕ
   pub midnights : ℕ
 
+-- of term k of the year N
 unfoldable pub termValues : ℕ → ℤ → ℕ → TermValues
 termValues e N k = record { dayOfTerm = termDay e N k; minuteOfTerm = termMinute e N k; midnights = count e N k }
 
+-- one term: 1, 3, 5
 unfoldable pub termAnswer : ℕ → ℤ → ℕ → Answer TermValues
 termAnswer e N k = refusing (badYear N) 1 (refusing (badTerm k) 3 (refusing (offTerm e N k) 5 (value (termValues e N k))))
 
--- terms 0 to 23, in order
+-- f 0, f 1 and so on, n of them
 unfoldable pub inOrder : {A : Type 0} → (ℕ → A) → ℕ → List A
 inOrder f zero = []
 inOrder f (suc n) = f 0 ∷ inOrder (λ (k : ℕ). f (suc k)) n
 
+-- 5, at any term below k
 unfoldable pub offBelow : ℕ → ℤ → ℕ → Bool
 offBelow e N zero = false
 offBelow e N (suc k) = offTerm e N k || offBelow e N k
 
+-- a year's terms 0 to 23: 1, 5
 unfoldable pub termsAnswer : ℕ → ℤ → Answer (List TermValues)
 termsAnswer e N = refusing (badYear N) 1 (refusing (offBelow e N 24) 5 (value (inOrder (termValues e N) 24)))
 
+-- day and minute at a place
 pub record LocalValues : Type 0 where
   pub dayThere : ℤ
   pub minuteThere : ℕ
 
+-- the local time: 2, 4
 unfoldable pub localAnswer : ℤ → ℕ → ℤ → Answer LocalValues
 localAnswer d m arc =
     refusing (badDay d || badMinute m) 2

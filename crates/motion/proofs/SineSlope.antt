@@ -8,7 +8,7 @@ use Rattle.law.specs.Sines.{sines}
 use Rattle.law.specs.Entry.{lastSine, sineEntry}
 use Rattle.law.proofs.Every.{every, seat}
 use Rattle.law.proofs.Rules.{sine-step, sine-ends}
-use Rattle.law.specs.Document.{quarter, radius, tenMinutes, sine}
+use Rattle.law.specs.Document.{quarter, tenMinutes, sine}
 use Rattle.motion.proofs.Slope.{Gains, Steps, Climbs, between-entry, between-climbs}
 
 -- the step k entries on from entry p is at most d

@@ -60,7 +60,7 @@ pub(crate) fn lifted_place(y: u64, root: u64, j: u64) -> Number
 }
 
 // A year and a day, each counted from the least allowed on.
-pub enum Midnight {
+enum Midnight {
     Is(u64, u64),
     Refused(Refusal),
 }

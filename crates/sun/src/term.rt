@@ -29,7 +29,7 @@ pub enum TermAnswer {
 }
 
 // The night before the first midnight past the mark, counted from day -4 on; the minute; the count.
-pub enum Found {
+enum Found {
     At(u64, u64, u64),
     Refused(Refusal),
 }

@@ -1,6 +1,6 @@
 -- The minute is found at t / 2,914 or one further, by the tangent's step rule; refusal 5 exactly past the last entry. Assumes nothing.
 use mathlib.Core.Path.{_≡_, ap, sym, _∙_}
-use Prim.Native.Nat.{ℕ, _+_, _/_, _≤_, _<_}
+use Prim.Native.Nat.{_+_, _/_, _<_}
 use native.Mathlib.Omega.{arith}
 use borrow.Author.Needs.{needs}
 use Rattle.law.specs.Entry.{lastTangent, tangentEntry}

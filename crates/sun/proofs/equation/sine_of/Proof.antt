@@ -1,6 +1,6 @@
 -- The sine of an arc is the definition's: at the last entry nothing is over, before it the part stays between two entries.
 -- Assumes nothing.
-use mathlib.Core.Path.{_≡_, sym, _∙_}
+use mathlib.Core.Path.{sym, _∙_}
 use native.Mathlib.Omega.{arith}
 use borrow.Author.Needs.{needs}
 use Rattle.law.proofs.Sines.{Between, sine-last, sine-between, sine-le}

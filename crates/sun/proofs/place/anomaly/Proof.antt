@@ -1,10 +1,10 @@
 -- The lifted anomaly, brought into the circle, is the definition's. Assumes nothing.
-use mathlib.Core.Path.{_≡_, refl, ap}
-use Prim.Native.Nat.{ℕ, _+_, _*_, _-_, _%_, _≤_}
+use mathlib.Core.Path.{refl}
+use Prim.Native.Nat.{_≤_}
 use native.Mathlib.Omega.{arith}
 use borrow.Author.Needs.{needs}
-use Rattle.law.specs.Document.{circle, dailyMotion}
-use Rattle.law.specs.Working.{rootOf, solsticeOf, anomalyOf}
+use Rattle.law.specs.Document.{dailyMotion}
+use Rattle.law.specs.Working.{anomalyOf}
 use Rattle.law.proofs.Root.{root-of-le}
 use Rattle.sun.proofs.place.anomaly.Statement.{statement}
 use Rattle.sun.proofs.place.anomaly.Tie as tie

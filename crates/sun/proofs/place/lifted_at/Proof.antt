@@ -1,5 +1,5 @@
 -- The lifted place at a midnight in range; a refusal of its year or day is passed on. Assumes nothing.
-use mathlib.Core.Path.{_≡_, ap, ap₂, _∙_, subst}
+use mathlib.Core.Path.{_≡_, ap₂, _∙_, subst}
 use mir.Facts.{toZ-ofZ}
 use borrow.Author.Needs.{needs}
 use Rattle.law.specs.Answer.{Answer, value, refused, refusing}

@@ -1,11 +1,11 @@
 -- The lifted mean place with the equation's size, by its side; a refusal is passed on. Assumes nothing.
-use mathlib.Core.Path.{_≡_, refl, ap, sym, _∙_, subst}
-use Prim.Native.Nat.{ℕ, _+_, _*_, _-_, _≤_}
+use mathlib.Core.Path.{_≡_, ap, _∙_, subst}
+use Prim.Native.Nat.{_+_, _*_, _-_, _≤_}
 use native.Mathlib.Omega.{arith}
 use borrow.Author.Needs.{needs}
-use Rattle.law.specs.Answer.{value, refused}
+use Rattle.law.specs.Answer.{value}
 use Rattle.law.specs.Document.{epicycles, dailyMotion}
-use Rattle.law.specs.Working.{solsticeOf, rootOf, sizeAnswer, headroom, placeAnswer}
+use Rattle.law.specs.Working.{sizeAnswer, headroom}
 use Rattle.law.proofs.Root.{root-of-le}
 use Rattle.law.proofs.Places.{place-added, place-taken, place-refused}
 use Rattle.units.specs.Said.{numberOf, saidNumber}

@@ -1,14 +1,11 @@
 -- Both edges are document 01's, the year's refusal first. Assumes nothing.
-use mathlib.Core.Path.{_≡_, refl, ap, sym, _∙_, subst}
-use mathlib.Core.Bool.{true}
-use lib.IntN.{ℤ}
+use mathlib.Core.Path.{_≡_, ap, _∙_, subst}
 use mir.Facts.{toZ-ofZ}
 use borrow.Author.Needs.{needs}
-use Rattle.law.specs.Answer.{value, refused}
-use Rattle.law.specs.Document.{badYear, badDay}
-use Rattle.law.specs.Working.{yearIndex, dayIndex, midnightAnswer}
+use Rattle.law.specs.Answer.{value}
+use Rattle.law.specs.Working.{yearIndex, dayIndex}
 use Rattle.law.proofs.Edges.{midnight-bad-year, midnight-bad-day, midnight-is}
-use Rattle.units.specs.Said.{numberOf, saidNumber}
+use Rattle.units.specs.Said.{saidNumber}
 use Rattle.sun.proofs.place.midnight_at.Statement.{statement}
 use Rattle.sun.proofs.place.midnight_at.Tie as tie
 

@@ -6,11 +6,11 @@ use native.Mathlib.Omega.{arith}
 use borrow.Author.Needs.{needs}
 use borrow.Fn.Kinds.{In}
 use borrow.Fn.PlainCycle.{Measures, is, falls, and}
-use Rattle.law.specs.Answer.{value, refused}
+use Rattle.law.specs.Answer.{value}
 use Rattle.law.specs.Document.{epicycles}
 use Rattle.law.specs.Working.{placeOf, placeAnswer}
 use Rattle.motion.proofs.Finds.{place-known, place-given, Here, here, On, on}
-use Rattle.units.specs.Said.{numberOf, saidNumber}
+use Rattle.units.specs.Said.{saidNumber}
 use Rattle.sun.proofs.term.walk.Reads as walk
 use Rattle.sun.proofs.term.walk.Kinds as walk-kinds
 use Rattle.sun.proofs.term.+walk.Lts-walk as walk-lts

@@ -3,9 +3,8 @@ use mathlib.Core.Path.{_≡_, refl, ap, _∙_, subst}
 use native.Mathlib.Omega.{arith}
 use mir.Facts.{toZ-ofZ}
 use borrow.Author.Needs.{needs}
-use Rattle.law.specs.Answer.{value, refused}
 use Rattle.law.specs.Document.{yearAnswer}
-use Rattle.law.specs.Working.{yearIndex, rootOf, rootFrom}
+use Rattle.law.specs.Working.{yearIndex, rootOf}
 use Rattle.law.proofs.Edges.{Inside, year-in, year-out}
 use Rattle.law.proofs.Bridge.{fraction-is, day-name-is, mansion-is, root-is}
 use Rattle.units.specs.Said.{saidNumber}

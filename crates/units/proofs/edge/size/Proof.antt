@@ -1,11 +1,10 @@
 -- The size of any number of the type is its absolute value, the least one's too. Assumes nothing.
-use mathlib.Core.Path.{_≡_, ap, sym, _∙_, subst}
+use mathlib.Core.Path.{ap}
 use native.Mathlib.Omega.{arith}
-use Prim.Native.Nat.{ℕ, _+_}
-use lib.IntN.{ℤ, natAbs}
+use lib.IntN.{natAbs}
 use mir.Syntax.{w64}
 use borrow.Author.Needs.{needs}
-use Rattle.units.proofs.Machine.{Negative, negative, Positive, positive, nonneg-is}
+use Rattle.units.proofs.Machine.{Negative, negative, Positive, positive}
 use Rattle.units.proofs.edge.size.Statement.{statement}
 use Rattle.units.proofs.edge.size.Tie as tie
 

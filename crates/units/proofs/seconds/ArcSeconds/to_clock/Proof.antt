@@ -1,15 +1,15 @@
 -- The clock seconds are document 01's, on the size, and signed as the arc is. Assumes nothing.
-use mathlib.Core.Path.{_≡_, refl, ap, sym, _∙_, subst}
-use Prim.Native.Nat.{ℕ, suc, _+_, _/_, _≤_, _^_}
+use mathlib.Core.Path.{_≡_, ap, sym, _∙_}
+use Prim.Native.Nat.{suc, _+_, _/_, _≤_, _^_}
 use native.Mathlib.Omega.{arith}
-use lib.IntN.{ℤ, pos, negsuc, negℤ, natAbs}
+use lib.IntN.{pos, negℤ, natAbs}
 use mir.Syntax.{w64}
 use mir.Val.{SFits}
 use mir.Facts.{toZ-ofZ, toZ-pos}
 use borrow.Author.Needs.{needs}
 use Rattle.law.specs.Document.{clockOfArc}
 use Rattle.law.proofs.Clock.{clock-east, clock-west}
-use Rattle.units.proofs.Machine.{Negative, negative, Positive, positive, Negated, negated, size-le}
+use Rattle.units.proofs.Machine.{negative, positive, Negated, negated, size-le}
 use Rattle.units.proofs.seconds.ArcSeconds.to_clock.Statement.{statement}
 use Rattle.units.proofs.seconds.ArcSeconds.to_clock.Tie as tie
 
