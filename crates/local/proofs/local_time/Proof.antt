@@ -1,5 +1,5 @@
 -- Each refusal is the document's, in its order; the clock seconds from day -5 on, shifted, are its local time. Assumes nothing.
-use mathlib.Core.Path.{_≡_, ap, ap₂, sym, _∙_, subst}
+use mathlib.Core.Path.{_≡_, ap₂, sym, _∙_, subst}
 use mathlib.Core.Bool.{true, false}
 use mathlib.Core.Logic.{⊎-elim}
 use Prim.Native.Nat.{_≤_}
@@ -11,22 +11,18 @@ use mir.Facts.{toZ-ofZ}
 use borrow.Author.Needs.{needs, sfits-of}
 use Rattle.law.specs.Document.{clockOfArc, badLongitude}
 use Rattle.law.specs.Working.{dayIndex}
-use Rattle.law.proofs.Edges.{Inside, day-in}
+use Rattle.law.proofs.Edges.{Inside}
 use Rattle.law.proofs.LocalTime.{half-a-day, local-bad-day, local-bad-minute, local-bad-longitude, local-is}
 use Rattle.units.specs.Said.{saidNumber}
+use Rattle.units.proofs.Callers.{told, day-known}
 use Rattle.units.proofs.Machine.{read, inside, below, above}
 use Rattle.local.proofs.local_time.Statement.{statement}
 use Rattle.local.proofs.local_time.Tie as tie
 
--- ---- the day: what `day_index` said, handed the machine's reading
-
-said : (c : tie.After-day-index) → saidNumber (c .day-index .result) ≡ dayIndex (c .before .args .day)
-said c = c .day-index .ensures ∙ ap dayIndex (toZ-ofZ (c .before .fits .day))
+-- ---- the day
 
 day-inside : (c : tie.After-j) → Inside 4 370 (c .before .before .before .args .day) (c .j .given .0 .0)
-day-inside c =
-    let d = c .before .before .before .args .day in
-    day-in d (subst (λ r. saidNumber r ≡ dayIndex d) (c .j .given .1) (said (c .before .before)))
+day-inside c = day-known (c .before .before .before .fits .day) (c .before .before .day-index .ensures) (c .j .given .1)
 
 -- ---- the longitude: what its arc and clock are, and what the two tests tell of it
 
@@ -76,7 +72,7 @@ returns : tie.Need-returns
 returns c =
     let s = c .before .before .before in
     local-bad-day (s .args .day) (s .args .minute) (s .args .longitude .0)
-    (subst (λ r. saidNumber r ≡ dayIndex (s .args .day)) (c .enum-told .given .1) (said (c .before .before)))
+    (told saidNumber dayIndex (s .fits .day) (c .before .before .day-index .ensures) (c .enum-told .given .1))
 
 returns-2 : tie.Need-returns-2
 returns-2 c =

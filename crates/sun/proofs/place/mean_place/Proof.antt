@@ -1,36 +1,21 @@
 -- The lifted mean place, brought into the circle, is the document's; a refusal is passed on. Assumes nothing.
-use mathlib.Core.Path.{_≡_, ap, ap₂, _∙_, subst}
+use mathlib.Core.Path.{ap, _∙_}
 use Prim.Native.Nat.{_+_, _*_, _-_, _%_}
 use native.Mathlib.Omega.{arith}
-use mir.Facts.{toZ-ofZ}
 use borrow.Author.Needs.{needs}
-use Rattle.law.specs.Answer.{Answer, value, refused, refusing}
-use Rattle.law.specs.Document.{circle, dailyMotion, inCircle, meanPlace, badYear, badDay, meanAnswer}
-use Rattle.law.specs.Working.{midnightAnswer}
-use Rattle.law.proofs.Edges.{Inside, midnight-in, midnight-out}
+use Rattle.law.specs.Answer.{value}
+use Rattle.law.specs.Document.{circle, dailyMotion, inCircle, meanPlace, meanAnswer}
+use Rattle.law.proofs.Edges.{Inside}
 use Rattle.law.proofs.Places.{mean-value}
-use Rattle.units.specs.Said.{numberOf}
-use Rattle.sun.specs.Said.{saidMidnight}
+use Rattle.sun.proofs.Midnights.{midnight-known, midnight-refused}
 use Rattle.sun.proofs.place.mean_place.Statement.{statement}
 use Rattle.sun.proofs.place.mean_place.Tie as tie
-
--- what `midnight_at` said, handed the machine's readings
-said : (c : tie.After-midnight-at) → saidMidnight (c .midnight-at .result) ≡ midnightAnswer (c .before .args .n) (c .before .args .d)
-said c = c .midnight-at .ensures ∙ ap₂ midnightAnswer (toZ-ofZ (c .before .fits .n)) (toZ-ofZ (c .before .fits .d))
 
 in-range : (c : tie.After-y) → Inside 2_000 2_000 (c .before .before .before .args .n) (c .y .given .0 .0)
     × Inside 4 370 (c .before .before .before .args .d) (c .y .given .0 .1 .0)
 in-range c =
     let start = c .before .before .before in
-    midnight-in (start .args .n) (start .args .d)
-    (subst (λ r. saidMidnight r ≡ midnightAnswer (start .args .n) (start .args .d)) (c .y .given .1) (said (c .before .before)))
-
-held-back : (c : tie.After-refusal) {A : Type 0} (x : Answer A)
-    → refused (numberOf (c .refusal .given .0 .0)) ≡ refusing (badYear (c .before .before .before .args .n)) 1 (refusing (badDay (c .before .before .before .args .d)) 2 x)
-held-back c x =
-    let start = c .before .before .before in
-    midnight-out (start .args .n) (start .args .d)
-    (subst (λ r. saidMidnight r ≡ midnightAnswer (start .args .n) (start .args .d)) (c .refusal .given .1) (said (c .before .before))) x
+    midnight-known (start .fits .n) (start .fits .d) (c .before .before .midnight-at .ensures) (c .y .given .1)
 
 midnight-at-requires : tie.Need-midnight-at-requires
 midnight-at-requires c κs = search needs
@@ -64,7 +49,7 @@ returns-2 : tie.Need-returns-2
 unfolding meanAnswer
 returns-2 c =
     let start = c .before .before .before .before in
-    held-back (c .before) (value (inCircle (meanPlace (start .args .n) (start .args .d))))
+    midnight-refused (start .fits .n) (start .fits .d) (c .before .before .before .midnight-at .ensures) (c .before .refusal .given .1) (value (inCircle (meanPlace (start .args .n) (start .args .d))))
 
 pub mean-place-spec : {M : Type 1} → statement M
 mean-place-spec =

@@ -1,23 +1,16 @@
 -- Both edges are document 01's, the year's refusal first. Assumes nothing.
-use mathlib.Core.Path.{_≡_, ap, _∙_, subst}
-use mir.Facts.{toZ-ofZ}
+use mathlib.Core.Path.{_≡_}
 use borrow.Author.Needs.{needs}
 use Rattle.law.specs.Answer.{value}
 use Rattle.law.specs.Working.{yearIndex, dayIndex}
 use Rattle.law.proofs.Edges.{midnight-bad-year, midnight-bad-day, midnight-is}
 use Rattle.units.specs.Said.{saidNumber}
+use Rattle.units.proofs.Callers.{told}
 use Rattle.sun.proofs.place.midnight_at.Statement.{statement}
 use Rattle.sun.proofs.place.midnight_at.Tie as tie
 
--- what the edges said: each was handed the machine's reading
-year-said : (c : tie.After-year-index) → saidNumber (c .year-index .result) ≡ yearIndex (c .before .args .n)
-year-said c = c .year-index .ensures ∙ ap yearIndex (toZ-ofZ (c .before .fits .n))
-
-day-said : (c : tie.After-day-index) → saidNumber (c .day-index .result) ≡ dayIndex (c .before .before .before .before .before .args .d)
-day-said c = c .day-index .ensures ∙ ap dayIndex (toZ-ofZ (c .before .before .before .before .before .fits .d))
-
-year-is : (c : tie.After-y) → value (c .y .given .0 .0) ≡ yearIndex (c .before .before .before .args .n)
-year-is c = subst (λ r. saidNumber r ≡ yearIndex (c .before .before .before .args .n)) (c .y .given .1) (year-said (c .before .before))
+in-years : (c : tie.After-y) → value (c .y .given .0 .0) ≡ yearIndex (c .before .before .before .args .n)
+in-years c = told saidNumber yearIndex (c .before .before .before .fits .n) (c .before .before .year-index .ensures) (c .y .given .1)
 
 year-index-requires : tie.Need-year-index-requires
 year-index-requires c κs = search needs
@@ -32,7 +25,7 @@ returns : tie.Need-returns
 returns c =
     let start = c .before .before .before in
     midnight-bad-year (start .args .n) (start .args .d)
-    (subst (λ r. saidNumber r ≡ yearIndex (start .args .n)) (c .enum-told .given .1) (year-said (c .before .before)))
+    (told saidNumber yearIndex (start .fits .n) (c .before .before .year-index .ensures) (c .enum-told .given .1))
 
 day-index-requires : tie.Need-day-index-requires
 day-index-requires c κs = search needs
@@ -46,14 +39,14 @@ enum-told-2 c = search needs
 returns-2 : tie.Need-returns-2
 returns-2 c =
     let start = c .before .before .before .before .before .before .before in
-    midnight-bad-day (start .args .n) (start .args .d) (year-is (c .before .before .before .before))
-    (subst (λ r. saidNumber r ≡ dayIndex (start .args .d)) (c .enum-told2 .given .1) (day-said (c .before .before)))
+    midnight-bad-day (start .args .n) (start .args .d) (in-years (c .before .before .before .before))
+    (told saidNumber dayIndex (start .fits .d) (c .before .before .day-index .ensures) (c .enum-told2 .given .1))
 
 returns-3 : tie.Need-returns-3
 returns-3 c =
     let start = c .before .before .before .before .before .before .before .before in
-    midnight-is (start .args .n) (start .args .d) (year-is (c .before .before .before .before .before))
-    (subst (λ r. saidNumber r ≡ dayIndex (start .args .d)) (c .before .j .given .1) (day-said (c .before .before .before)))
+    midnight-is (start .args .n) (start .args .d) (in-years (c .before .before .before .before .before))
+    (told saidNumber dayIndex (start .fits .d) (c .before .before .before .day-index .ensures) (c .before .j .given .1))
 
 pub midnight-at-spec : {M : Type 1} → statement M
 midnight-at-spec =

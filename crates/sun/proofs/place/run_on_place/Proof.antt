@@ -1,39 +1,23 @@
 -- The lifted place, lowered again, is the document's run-on place; a refusal is passed on. Assumes nothing.
-use mathlib.Core.Path.{_≡_, ap₂, _∙_, subst}
+use mathlib.Core.Path.{subst}
 use Prim.Native.Nat.{_≤_}
 use native.Mathlib.Omega.{arith}
 use mir.Syntax.{w64}
 use mir.Val.{toZ}
-use mir.Facts.{toZ-ofZ}
 use borrow.Author.Needs.{needs}
-use Rattle.law.specs.Answer.{value, refused}
 use Rattle.law.specs.Document.{epicycles}
-use Rattle.units.specs.Said.{numberOf, saidNumber}
+use Rattle.units.specs.Said.{numberOf}
 use Rattle.sun.specs.Said.{numberUpTo}
-use Rattle.law.specs.Working.{lift, liftedAnswer}
+use Rattle.sun.proofs.Midnights.{lifted-known}
+use Rattle.law.specs.Working.{lift}
 use Rattle.law.proofs.Places.{run-on-value, run-on-refused}
 use Rattle.units.proofs.Machine.{Lowered, lowered, read}
 use lib.IntN.{pos, _-ℤ_}
 use Rattle.sun.proofs.place.run_on_place.Statement.{statement}
 use Rattle.sun.proofs.place.run_on_place.Tie as tie
 
--- what `lifted_at` said, handed the machine's readings
-said : (c : tie.After-lifted-at) → saidNumber (c .lifted-at .result) ≡ liftedAnswer epicycles (c .before .args .n) (c .before .args .d)
-said c = c .lifted-at .ensures .0 ∙ ap₂ (liftedAnswer epicycles) (toZ-ofZ (c .before .fits .n)) (toZ-ofZ (c .before .fits .d))
-
-place-is : (c : tie.After-place) → value (c .place .given .0 .0) ≡ liftedAnswer epicycles (c .before .before .before .args .n) (c .before .before .before .args .d)
-place-is c =
-    let start = c .before .before .before in
-    subst (λ r. saidNumber r ≡ liftedAnswer epicycles (start .args .n) (start .args .d)) (c .place .given .1) (said (c .before .before))
-
 place-most : (c : tie.After-place) → c .place .given .0 .0 ≤ 90_000_000_000_000
 place-most c = subst (numberUpTo 90_000_000_000_000) (c .place .given .1) (c .before .before .lifted-at .ensures .1)
-
-refusal-is : (c : tie.After-refusal)
-    → refused (numberOf (c .refusal .given .0 .0)) ≡ liftedAnswer epicycles (c .before .before .before .args .n) (c .before .before .before .args .d)
-refusal-is c =
-    let start = c .before .before .before in
-    subst (λ r. saidNumber r ≡ liftedAnswer epicycles (start .args .n) (start .args .d)) (c .refusal .given .1) (said (c .before .before))
 
 lifted-at-requires : tie.Need-lifted-at-requires
 lifted-at-requires c κs = search needs
@@ -60,12 +44,12 @@ returns : tie.Need-returns
 returns c =
     let start = c .before .before .before .before in
     let place = c .before .place .given .0 .0 in
-    run-on-value epicycles (start .args .n) (start .args .d) place (read w64 (toZ w64 place -ℤ pos lift)) (place-is (c .before)) (down c .is)
+    run-on-value epicycles (start .args .n) (start .args .d) place (read w64 (toZ w64 place -ℤ pos lift)) (lifted-known (start .fits .n) (start .fits .d) (c .before .before .before .lifted-at .ensures .0) (c .before .place .given .1)) (down c .is)
 
 returns-2 : tie.Need-returns-2
 returns-2 c =
     let start = c .before .before .before .before in
-    run-on-refused epicycles (start .args .n) (start .args .d) (numberOf (c .before .refusal .given .0 .0)) (refusal-is (c .before))
+    run-on-refused epicycles (start .args .n) (start .args .d) (numberOf (c .before .refusal .given .0 .0)) (lifted-known (start .fits .n) (start .fits .d) (c .before .before .before .lifted-at .ensures .0) (c .before .refusal .given .1))
 
 pub run-on-place-spec : {M : Type 1} → statement M
 run-on-place-spec =

@@ -1,35 +1,18 @@
 -- The lifted place, brought into the circle, is the document's true place; a refusal is passed on. Assumes nothing.
-use mathlib.Core.Path.{_≡_, ap₂, _∙_, subst}
+use mathlib.Core.Path.{subst}
 use Prim.Native.Nat.{_≤_}
 use native.Mathlib.Omega.{arith}
-use mir.Facts.{toZ-ofZ}
 use borrow.Author.Needs.{needs}
-use Rattle.law.specs.Answer.{value, refused}
 use Rattle.law.specs.Document.{epicycles}
-use Rattle.units.specs.Said.{numberOf, saidNumber}
+use Rattle.units.specs.Said.{numberOf}
 use Rattle.sun.specs.Said.{numberUpTo}
-use Rattle.law.specs.Working.{liftedAnswer}
+use Rattle.sun.proofs.Midnights.{lifted-known}
 use Rattle.law.proofs.Places.{true-value, true-refused}
 use Rattle.sun.proofs.place.true_place.Statement.{statement}
 use Rattle.sun.proofs.place.true_place.Tie as tie
 
--- what `lifted_at` said, handed the machine's readings
-said : (c : tie.After-lifted-at) → saidNumber (c .lifted-at .result) ≡ liftedAnswer epicycles (c .before .args .n) (c .before .args .d)
-said c = c .lifted-at .ensures .0 ∙ ap₂ (liftedAnswer epicycles) (toZ-ofZ (c .before .fits .n)) (toZ-ofZ (c .before .fits .d))
-
-place-is : (c : tie.After-place) → value (c .place .given .0 .0) ≡ liftedAnswer epicycles (c .before .before .before .args .n) (c .before .before .before .args .d)
-place-is c =
-    let start = c .before .before .before in
-    subst (λ r. saidNumber r ≡ liftedAnswer epicycles (start .args .n) (start .args .d)) (c .place .given .1) (said (c .before .before))
-
 place-most : (c : tie.After-place) → c .place .given .0 .0 ≤ 90_000_000_000_000
 place-most c = subst (numberUpTo 90_000_000_000_000) (c .place .given .1) (c .before .before .lifted-at .ensures .1)
-
-refusal-is : (c : tie.After-refusal)
-    → refused (numberOf (c .refusal .given .0 .0)) ≡ liftedAnswer epicycles (c .before .before .before .args .n) (c .before .before .before .args .d)
-refusal-is c =
-    let start = c .before .before .before in
-    subst (λ r. saidNumber r ≡ liftedAnswer epicycles (start .args .n) (start .args .d)) (c .refusal .given .1) (said (c .before .before))
 
 lifted-at-requires : tie.Need-lifted-at-requires
 lifted-at-requires c κs = search needs
@@ -46,12 +29,12 @@ add-t7 c = let m = place-most (c .before) in search needs
 returns : tie.Need-returns
 returns c =
     let start = c .before .before .before .before in
-    true-value epicycles (start .args .n) (start .args .d) (c .before .place .given .0 .0) (place-is (c .before))
+    true-value epicycles (start .args .n) (start .args .d) (c .before .place .given .0 .0) (lifted-known (start .fits .n) (start .fits .d) (c .before .before .before .lifted-at .ensures .0) (c .before .place .given .1))
 
 returns-2 : tie.Need-returns-2
 returns-2 c =
     let start = c .before .before .before .before in
-    true-refused epicycles (start .args .n) (start .args .d) (numberOf (c .before .refusal .given .0 .0)) (refusal-is (c .before))
+    true-refused epicycles (start .args .n) (start .args .d) (numberOf (c .before .refusal .given .0 .0)) (lifted-known (start .fits .n) (start .fits .d) (c .before .before .before .lifted-at .ensures .0) (c .before .refusal .given .1))
 
 pub true-place-spec : {M : Type 1} → statement M
 true-place-spec = tie.close (tie.spec lifted-at-requires enum-known-place add-t7 enum-known-refusal returns returns-2)

@@ -1,25 +1,21 @@
 -- A term's values are the document's; refusals 1 and 3 in their order, each exactly where its test holds. Assumes nothing.
-use mathlib.Core.Path.{_≡_, refl, ap, _∙_, subst}
+use mathlib.Core.Bool.{true}
+use mathlib.Core.Path.{_≡_, refl, _∙_}
 use native.Mathlib.Omega.{arith}
-use mir.Facts.{toZ-ofZ}
 use borrow.Author.Needs.{needs}
-use Rattle.law.specs.Document.{epicycles, termAnswer}
-use Rattle.law.specs.Working.{yearIndex}
+use Rattle.law.specs.Document.{badYear, epicycles, termAnswer}
 use Rattle.law.proofs.Choice.{lt-yes}
-use Rattle.law.proofs.Edges.{Inside, year-in, year-out}
+use Rattle.law.proofs.Edges.{Inside}
 use Rattle.motion.proofs.TermAnswers.{term-value}
-use Rattle.units.specs.Said.{saidNumber}
+use Rattle.units.proofs.Callers.{year-known, year-unknown}
 use Rattle.sun.proofs.term.term_of.Statement.{statement}
 use Rattle.sun.proofs.term.term_of.Tie as tie
 
--- what `year_index` said, handed the machine's reading
-said : (c : tie.After-year-index) → saidNumber (c .year-index .result) ≡ yearIndex (c .before .args .n)
-said c = c .year-index .ensures ∙ ap yearIndex (toZ-ofZ (c .before .fits .n))
-
 in-range : (c : tie.After-y) → Inside 2_000 2_000 (c .before .before .before .args .n) (c .y .given .0 .0)
-in-range c =
-    let n = c .before .before .before .args .n in
-    year-in n (subst (λ r. saidNumber r ≡ yearIndex n) (c .y .given .1) (said (c .before .before)))
+in-range c = year-known (c .before .before .before .fits .n) (c .before .before .year-index .ensures) (c .y .given .1)
+
+out-of-range : (c : tie.After-enum-told) → badYear (c .before .before .before .args .n) ≡ true
+out-of-range c = year-unknown (c .before .before .before .fits .n) (c .before .before .year-index .ensures) (c .enum-told .given .1)
 
 year-index-requires : tie.Need-year-index-requires
 year-index-requires c κs = search needs
@@ -32,9 +28,7 @@ enum-told c = search needs
 
 returns : tie.Need-returns
 unfolding termAnswer
-returns c =
-    let n = c .before .before .before .args .n in
-    rw (year-out n (subst (λ r. saidNumber r ≡ yearIndex n) (c .enum-told .given .1) (said (c .before .before)))) refl
+returns c = rw (out-of-range c) refl
 
 returns-2 : tie.Need-returns-2
 unfolding termAnswer

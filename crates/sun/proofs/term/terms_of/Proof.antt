@@ -1,26 +1,22 @@
 -- The year's list is the document's 24 terms; on refusal 1 every record is 0. Assumes nothing.
-use mathlib.Core.Path.{_≡_, refl, ap, _∙_, subst}
+use mathlib.Core.Bool.{true}
+use mathlib.Core.Path.{_≡_, refl, ap, _∙_}
 use native.Mathlib.Omega.{arith}
-use mir.Facts.{toZ-ofZ}
 use borrow.Author.Needs.{needs}
 use Rattle.law.specs.Answer.{value}
-use Rattle.law.specs.Document.{epicycles, termsAnswer}
-use Rattle.law.specs.Working.{yearIndex}
-use Rattle.law.proofs.Edges.{Inside, year-in, year-out}
+use Rattle.law.specs.Document.{badYear, epicycles, termsAnswer}
+use Rattle.law.proofs.Edges.{Inside}
 use Rattle.motion.proofs.TermAnswers.{terms-value}
-use Rattle.units.specs.Said.{saidNumber}
+use Rattle.units.proofs.Callers.{year-known, year-unknown}
 use Rattle.sun.specs.Said.{saidListed, termsListed, heldTerms}
 use Rattle.sun.proofs.term.terms_of.Statement.{statement}
 use Rattle.sun.proofs.term.terms_of.Tie as tie
 
--- what `year_index` said, handed the machine's reading
-said : (c : tie.After-year-index) → saidNumber (c .year-index .result) ≡ yearIndex (c .before .args .n)
-said c = c .year-index .ensures ∙ ap yearIndex (toZ-ofZ (c .before .fits .n))
-
 in-range : (c : tie.After-y) → Inside 2_000 2_000 (c .before .before .before .args .n) (c .y .given .0 .0)
-in-range c =
-    let n = c .before .before .before .args .n in
-    year-in n (subst (λ r. saidNumber r ≡ yearIndex n) (c .y .given .1) (said (c .before .before)))
+in-range c = year-known (c .before .before .before .fits .n) (c .before .before .year-index .ensures) (c .y .given .1)
+
+out-of-range : (c : tie.After-enum-told) → badYear (c .before .before .before .args .n) ≡ true
+out-of-range c = year-unknown (c .before .before .before .fits .n) (c .before .before .year-index .ensures) (c .enum-told .given .1)
 
 year-index-requires : tie.Need-year-index-requires
 year-index-requires c κs = search needs
@@ -33,9 +29,7 @@ enum-told c = search needs
 
 returns : tie.Need-returns
 unfolding termsAnswer
-returns c =
-    let n = c .before .before .before .args .n in
-    rw (year-out n (subst (λ r. saidNumber r ≡ yearIndex n) (c .enum-told .given .1) (said (c .before .before)))) (refl, refl)
+returns c = rw (out-of-range c) (refl, refl)
 
 root-of-requires : tie.Need-root-of-requires
 root-of-requires c κs = in-range (c .before) .most
