@@ -202,7 +202,8 @@ def true_place(n, day):
 # Terms and local times.
 
 
-def term(n, k):
+def term_values(n, k):
+    """Day, minute and count."""
     require_year(n)
     if k > 23:
         raise Refused(3)
@@ -215,7 +216,11 @@ def term(n, k):
     place, next_place = run_on(n, day), run_on(n, day + 1)
     minute = 1440 * (mark - place) // (next_place - place)
     assert place <= mark < next_place and 2 <= count <= 8 and 0 <= minute <= 1439, (n, k)
-    return f"day {day} minute {minute} count {count}"
+    return day, minute, count
+
+
+def term(n, k):
+    return "day {} minute {} count {}".format(*term_values(n, k))
 
 
 def clock_seconds(longitude):
