@@ -408,9 +408,13 @@ def main(arguments):
     assert_table_rules()
     assert_marked_table()
     assert_compared_figures()
+    import term_book  # here, since it takes the reckoner from this file
+
+    files = [(path, "".join(line + "\n" for part in parts for line in part()).encode()) for path, parts in EXPECTED_FILES]
+    files += term_book.expected_files()
     differing = []
-    for path, parts in EXPECTED_FILES:
-        file, expected = ROOT_FOLDER / path, "".join(line + "\n" for part in parts for line in part()).encode()
+    for path, expected in files:
+        file = ROOT_FOLDER / path
         if not arguments:
             file.parent.mkdir(parents=True, exist_ok=True)
             file.write_bytes(expected)

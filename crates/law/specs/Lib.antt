@@ -5,3 +5,4 @@ pub mod Round
 pub mod Answer
 pub mod Document
 pub mod Working
+pub mod Book

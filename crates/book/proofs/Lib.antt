@@ -1,0 +1,15 @@
+pub mod RecordAnswers
+pub mod YearSteps
+pub mod WhatIsLeft
+pub mod BookSteps
+pub mod Counts
+pub mod Filling
+pub mod ReadValues
+pub mod WriteAnswers
+pub mod WorkedFits
+pub mod WorkedAnswers
+pub mod ThereAndBack
+pub mod BackAndThere
+pub mod WholeBooks
+pub mod HeldFast
+pub mod SeekFinds

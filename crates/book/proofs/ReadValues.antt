@@ -1,0 +1,38 @@
+-- The values that are read one by one are those of the year at the start of the bytes. Assumes nothing.
+use mathlib.Core.List.{List, _∷_}
+use mathlib.Core.Path.{_≡_, refl, _∙_, ap}
+use Prim.Native.Nat.{ℕ, zero, suc, _+_, _*_, _<_}
+use native.Mathlib.Omega.{arith}
+use lib.IntN.{ℤ, pos, _-ℤ_}
+use lib.ListN.{getD, drop}
+use lib.Seq.{drop-drop}
+use Rattle.law.specs.Document.{TermValues, inOrder}
+use Rattle.law.specs.Book.{twoAt, headSize, termIn, termsIn, valuesIn}
+use Rattle.law.proofs.Whole.{Is, is-pos, is-minus, same}
+use Rattle.law.proofs.InOrder.{in-order-same}
+use Rattle.book.proofs.WhatIsLeft.{two-drop}
+
+lowered-is : (lo n : ℕ) {d : ℤ} → Is d n lo → d ≡ pos n -ℤ pos lo
+lowered-is lo n h = same h (is-minus (is-pos n) (is-pos lo)) (omega arith)
+
+pub term-read : (b : List ℕ) (at : ℕ) {d : ℤ} {n m : ℕ} → Is d n 4 → n ≡ twoAt b (at + 2) → m ≡ twoAt b (at + 4)
+    → record { dayOfTerm = d; minuteOfTerm = m; midnights = 0 } ≡ termIn (drop at b)
+term-read b at {n = n} i p q = rw (lowered-is 4 n i, p, q, two-drop b at 2, two-drop b at 4)
+
+terms-in-order : (n z : ℕ) (b : List ℕ) → termsIn n (drop z b) ≡ inOrder (λ (k : ℕ). termIn (drop (z + k * 6) b)) n
+unfolding termsIn inOrder
+terms-in-order zero z b = refl
+terms-in-order (suc n) z b =
+    let e : z + 0 * 6 ≡ z = omega arith in
+    rw (e, drop-drop 6 z b)
+    (ap (λ (l : List TermValues). termIn (drop z b) ∷ l)
+    (terms-in-order n (z + 6) b
+    ∙ in-order-same (λ (k : ℕ). termIn (drop (z + 6 + k * 6) b)) (λ (k : ℕ). termIn (drop (z + suc k * 6) b)) n
+    (λ (k : ℕ) (h : k < n). let f : z + 6 + k * 6 ≡ z + suc k * 6 = omega arith in ap (λ (i : ℕ). termIn (drop i b)) f)))
+
+-- a year whose head is 5 bytes long
+pub year-read : (b : List ℕ) {N : ℤ} {n name duty : ℕ} {ts : List TermValues} → headSize b ≡ 5 → Is N n 2_000 → n ≡ twoAt b 1
+    → name ≡ getD b 3 0 → duty ≡ getD b 4 0 → ts ≡ inOrder (λ (k : ℕ). termIn (drop (5 + k * 6) b)) 24
+    → record { yearN = N; yearName = name; yearMansion = duty; yearTerms = ts } ≡ valuesIn b
+unfolding valuesIn
+year-read b {n = n} z i p x y q = rw (lowered-is 2_000 n i, p, x, y, q, z, terms-in-order 24 5 b)

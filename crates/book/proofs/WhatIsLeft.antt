@@ -1,0 +1,19 @@
+-- What is left of a book from a byte on, and what stands first in it. Assumes nothing.
+use mathlib.Core.List.{List}
+use mathlib.Core.Path.{_≡_, _∙_, ap}
+use Prim.Native.Nat.{ℕ, _+_, _-_}
+use native.Mathlib.Omega.{arith}
+use native.Mathlib.Nat.{add-zero, add-assoc}
+use lib.ListN.{length, getD, drop, take, length-drop}
+use lib.Seq.{take-all, getD-drop}
+use Rattle.law.specs.Book.{twoAt}
+
+-- a part up to the end
+pub rest : (s : List ℕ) (a : ℕ) → take (length s - a) (drop a s) ≡ drop a s
+rest s a = take-all (length s - a) (drop a s) (simp length-drop (omega arith))
+
+pub first : (s : List ℕ) (a : ℕ) → getD (drop a s) 0 0 ≡ getD s a 0
+first s a = getD-drop a s 0 0 ∙ ap (λ (i : ℕ). getD s i 0) (add-zero a)
+
+pub two-drop : (s : List ℕ) (a i : ℕ) → twoAt (drop a s) i ≡ twoAt s (a + i)
+two-drop s a i = simp (getD-drop, add-assoc)

@@ -1,0 +1,47 @@
+-- The count that is sought is N raised; outside the years the answer is 1. Assumes nothing.
+use mathlib.Core.Path.{_≡_, ap, sym, _∙_, subst}
+use Prim.Native.Nat.{ℕ}
+use mir.Facts.{toZ-ofZ}
+use borrow.Author.Needs.{needs}
+use Rattle.law.specs.Working.{yearIndex}
+use Rattle.law.proofs.Edges.{Inside, year-in, year-out}
+use Rattle.units.specs.Said.{saidNumber}
+use Rattle.book.proofs.Counts.{counted}
+use Rattle.book.proofs.BookSteps.{toSeek, seek-outside, seek-inside}
+use Rattle.book.proofs.seek.seek_year.Statement.{statement}
+use Rattle.book.proofs.seek.seek_year.Tie as tie
+
+-- what `year_index` said, handed the machine's reading
+said : (c : tie.After-year-index) → saidNumber (c .year-index .result) ≡ yearIndex (c .before .before .args .n)
+said c = c .year-index .ensures ∙ ap yearIndex (toZ-ofZ (c .before .before .fits .n))
+
+in-range : (c : tie.After-count) → Inside 2_000 2_000 (c .before .before .before .before .args .n) (c .count .given .0 .0)
+in-range c =
+    let n = c .before .before .before .before .args .n in
+    year-in n (subst (λ r. saidNumber r ≡ yearIndex n) (c .count .given .1) (said (c .before .before)))
+
+year-index-requires : tie.Need-year-index-requires
+year-index-requires c κs = search needs
+
+enum-known-count : tie.Need-enum-known-count
+enum-known-count c = search needs
+
+enum-told : tie.Need-enum-told
+enum-told c = search needs
+
+returns : tie.Need-returns
+returns c = let a = c .before .before .before .before .args in
+    sym (seek-outside (a .book .now) (a .n) (year-out (a .n) (subst (λ r. saidNumber r ≡ yearIndex (a .n)) (c .enum-told .given .1) (said (c .before .before)))))
+
+seek-requires : tie.Need-seek-requires
+seek-requires c κs = in-range (c .before) .most
+
+returns-2 : tie.Need-returns-2
+returns-2 c = let a = c .before .before .before .before .before .before .args in
+    let i = in-range (c .before .before) in
+    c .seek .ensures ∙ (ap (λ (k : ℕ). toSeek k (a .book .now) 0 0) (counted 2_000 (i .is)) ∙ sym (seek-inside (a .book .now) (a .n) (i .test)))
+
+pub seek-year-spec : {M : Type 1} → statement M
+seek-year-spec =
+    tie.close
+    (tie.spec year-index-requires enum-known-count enum-told returns seek-requires returns-2)

@@ -1,0 +1,49 @@
+-- What this crate's answers say, in document 01's numbers. Assumes nothing.
+use mathlib.Core.List.{List, map}
+use Prim.Native.Nat.{ℕ}
+use lib.IntN.{ℤ}
+use Rattle.law.specs.Answer.{Answer, value, refused}
+use Rattle.law.specs.Book.{Checked, sound, faulty, Next, nextYear, bookEnd, stop, Sought, found, unsound, noYear, BookYear}
+use Rattle.units.specs.Said.{numberOf}
+use Rattle.sun.specs.declared.term.TermRecord.{TermRecord}
+use Rattle.sun.specs.Said.{valuesOf}
+use Rattle.book.specs.declared.read.ReadYear.{ReadYear}
+use Rattle.book.specs.declared.write.Written.{Written}
+use Rattle.book.specs.declared.write.Written.the-variants as written
+use Rattle.book.specs.declared.record.RecordAnswer.{RecordAnswer}
+use Rattle.book.specs.declared.record.RecordAnswer.the-variants as record-answer
+use Rattle.book.specs.declared.year.BookAnswer.{BookAnswer}
+use Rattle.book.specs.declared.year.BookAnswer.the-variants as book-answer
+use Rattle.book.specs.declared.year.Next.{Next as NextAnswer}
+use Rattle.book.specs.declared.year.Next.the-variants as next-answer
+use Rattle.book.specs.declared.seek.Sought.{Sought as SoughtAnswer}
+use Rattle.book.specs.declared.seek.Sought.the-variants as sought-answer
+
+abbrev pub saidRecord : RecordAnswer → Answer Unit
+saidRecord record-answer.Sound = value tt
+saidRecord (record-answer.Refused r) = refused (numberOf r)
+
+abbrev pub saidChecked : BookAnswer → Checked
+saidChecked (book-answer.Sound end) = sound end
+saidChecked (book-answer.Refused r byte) = faulty (numberOf r) byte
+
+abbrev pub saidNext : NextAnswer → Next
+saidNext (next-answer.Year end least) = nextYear end least
+saidNext next-answer.End = bookEnd
+saidNext (next-answer.Refused r byte) = stop (numberOf r) byte
+
+abbrev pub saidSought : SoughtAnswer → Sought
+saidSought (sought-answer.Found start end) = found start end
+saidSought (sought-answer.Unsound r byte) = unsound (numberOf r) byte
+saidSought (sought-answer.Refused r) = noYear (numberOf r)
+
+-- a year's values as they are given to a call
+abbrev pub givenYear : ℤ → ℕ → ℕ → List TermRecord → BookYear
+givenYear n name mansion terms = record { yearN = n; yearName = name; yearMansion = mansion; yearTerms = map valuesOf terms }
+
+abbrev pub saidRead : ReadYear → BookYear
+saidRead year = givenYear (year .n) (year .«day_name») (year .mansion) (year .terms)
+
+abbrev pub saidWritten : Written → Answer Unit
+saidWritten written.Done = value tt
+saidWritten (written.Refused r) = refused (numberOf r)

@@ -1,0 +1,22 @@
+// The term book: reading it year by year, checking it, seeking a year, and going between a year's bytes
+// and its values. Inside, N is counted from -2,000 and a day from -4, as the book does. No public function has a `requires`.
+mod bytes;
+mod read;
+mod record;
+mod seek;
+mod worked;
+mod write;
+mod year;
+
+pub use read::ReadYear;
+pub use read::read_year;
+pub use seek::Sought;
+pub use seek::seek_year;
+pub use seek::year_part;
+pub use worked::write_year;
+pub use write::Written;
+pub use write::write_year_from;
+pub use year::BookAnswer;
+pub use year::Next;
+pub use year::check_book;
+pub use year::next_at;

@@ -1,0 +1,87 @@
+// One record: its refusal in the order 8, 7, 10, 9, where a head or a term is due.
+use crate::bytes::two_at;
+use crate::bytes::wide;
+use units::Refusal;
+ghost use mathlib.Core.Path.{_≡_};
+ghost use Prim.Native.Nat.{_<_};
+ghost use lib.ListN.{length};
+ghost use Rattle.law.specs.Book.{aHead, aTerm, recordSize, recordAnswer};
+ghost use Rattle.book.specs.Said.{saidRecord};
+
+pub enum RecordAnswer {
+    Sound,
+    Refused(Refusal),
+}
+
+// A record's length by its kind, and 0 of what is no kind.
+pub(crate) fn record_size(kind: u8) -> usize
+    ensures { λ r. ⌜ r ≡ recordSize kind ⌝ }
+{
+    if kind == 1 {
+        5
+    } else if kind == 2 {
+        6
+    } else {
+        0
+    }
+}
+
+// The record at the start of b, where a head is due whose N + 2,000 is at least so much.
+pub(crate) fn head_answer(b: &[u8], least: u64) -> RecordAnswer
+    requires { ⌜ 0 < length (now b) ⌝ }
+    ensures { λ r. ⌜ saidRecord r ≡ recordAnswer (now (b .entry)) (aHead least) ⌝ }
+{
+    let kind = b[0];
+    let size = record_size(kind);
+    if size == 0 {
+        return RecordAnswer::Refused(Refusal::KindUnknown);
+    }
+    if b.len() < size {
+        return RecordAnswer::Refused(Refusal::RecordCutOff);
+    }
+    if kind != 1 {
+        return RecordAnswer::Refused(Refusal::OutOfTurn);
+    }
+    let number = two_at(b, 1);
+    if number < least {
+        return RecordAnswer::Refused(Refusal::OutOfTurn);
+    }
+    if 4_000 < number {
+        return RecordAnswer::Refused(Refusal::FieldOutside);
+    }
+    if 59 < b[3] {
+        return RecordAnswer::Refused(Refusal::FieldOutside);
+    }
+    if 27 < b[4] {
+        return RecordAnswer::Refused(Refusal::FieldOutside);
+    }
+    RecordAnswer::Sound
+}
+
+// The same where term k is due.
+pub(crate) fn term_answer(b: &[u8], k: u64) -> RecordAnswer
+    requires { ⌜ 0 < length (now b) ⌝ }
+    ensures { λ r. ⌜ saidRecord r ≡ recordAnswer (now (b .entry)) (aTerm k) ⌝ }
+{
+    let kind = b[0];
+    let size = record_size(kind);
+    if size == 0 {
+        return RecordAnswer::Refused(Refusal::KindUnknown);
+    }
+    if b.len() < size {
+        return RecordAnswer::Refused(Refusal::RecordCutOff);
+    }
+    if kind != 2 {
+        return RecordAnswer::Refused(Refusal::OutOfTurn);
+    }
+    if wide(b[1]) != k {
+        return RecordAnswer::Refused(Refusal::OutOfTurn);
+    }
+    if 374 < two_at(b, 2) {
+        return RecordAnswer::Refused(Refusal::FieldOutside);
+    }
+    if 1_439 < two_at(b, 4) {
+        return RecordAnswer::Refused(Refusal::FieldOutside);
+    }
+    RecordAnswer::Sound
+}

@@ -1,0 +1,116 @@
+// A year's values into the first 149 bytes of a lent buffer; the later bytes stay.
+use sun::TermRecord;
+use units::Number;
+use units::Refusal;
+ghost use mathlib.Core.Bool.{false};
+ghost use mathlib.Core.List.{_∷_, _++_, map};
+ghost use mathlib.Core.Path.{_≡_};
+ghost use Prim.Native.Nat.{_+_, _≤_, _<_};
+ghost use lib.ListN.{length, take, drop};
+ghost use Rattle.law.specs.Document.{badDay};
+ghost use Rattle.law.specs.Book.{twoOf, termsOf, dayCount, badTermValues, anyBad, writeAnswer, done, afterwards};
+ghost use Rattle.sun.specs.Said.{valuesOf};
+ghost use Rattle.book.specs.Said.{saidWritten, givenYear};
+
+pub enum Written {
+    Done,
+    Refused(Refusal),
+}
+
+// A day or a minute that may not be written.
+fn is_bad(term: TermRecord) -> bool
+    ensures { λ r. ⌜ r ≡ badTermValues (valuesOf term) ⌝ }
+{
+    match units::day_index(term.day) {
+        Number::Is(_) => 1_439 < term.minute,
+        Number::Refused(_) => true,
+    }
+}
+
+fn any_bad(terms: [TermRecord; 24]) -> bool
+    ensures { λ r. ⌜ r ≡ anyBad (map valuesOf terms) ⌝ }
+{
+    let mut k: usize = 0;
+    while k < 24 {
+        if is_bad(terms[k]) {
+            return true;
+        }
+        k += 1;
+    }
+    false
+}
+
+// d + 4.
+fn day_count(d: i64) -> u64
+    requires { ⌜ badDay d ≡ false ⌝ }
+    ensures { λ r. ⌜ r ≡ dayCount d ⌝ }
+{
+    (d + 4) as u64
+}
+
+fn put_head(buf: &mut [u8], number: u64, day_name: u64, mansion: u64)
+    requires { ⌜ (5 ≤ length (now buf)) × («day_name» < 256) × (mansion < 256) ⌝ }
+    ensures { λ _. ⌜ now (buf .exit) ≡ 1 ∷ twoOf number («day_name» ∷ mansion ∷ drop 5 (now (buf .entry))) ⌝ }
+{
+    buf[0] = 1;
+    buf[1] = (number / 256 % 256) as u8;
+    buf[2] = (number % 256) as u8;
+    buf[3] = day_name as u8;
+    buf[4] = mansion as u8;
+}
+
+// The term k, its record starting at a byte.
+fn put_term(buf: &mut [u8], at: usize, k: u64, day: u64, minute: u64)
+    requires { ⌜ (at + 6 ≤ length (now buf)) × (k < 256) ⌝ }
+    ensures { λ _. ⌜ now (buf .exit) ≡ take at (now (buf .entry)) ++ (2 ∷ k ∷ twoOf day (twoOf minute (drop (at + 6) (now (buf .entry))))) ⌝ }
+{
+    buf[at] = 2;
+    buf[at + 1] = k as u8;
+    buf[at + 2] = (day / 256 % 256) as u8;
+    buf[at + 3] = (day % 256) as u8;
+    buf[at + 4] = (minute / 256 % 256) as u8;
+    buf[at + 5] = (minute % 256) as u8;
+}
+
+// The 24 terms after a head of 5 bytes.
+fn put_terms(buf: &mut [u8], terms: [TermRecord; 24])
+    requires { ⌜ (149 ≤ length (now buf)) × (anyBad (map valuesOf terms) ≡ false) ⌝ }
+    ensures { λ _. ⌜ now (buf .exit) ≡ take 5 (now (buf .entry)) ++ termsOf 0 (map valuesOf terms) (drop 149 (now (buf .entry))) ⌝ }
+{
+    let mut k: usize = 0;
+    while k < 24 {
+        let term = terms[k];
+        put_term(buf, 5 + k * 6, k as u64, day_count(term.day), term.minute);
+        k += 1;
+    }
+}
+
+// Writes a year from its values, heeding no count. Nothing is written on a refusal.
+pub fn write_year_from(
+    n: i64,
+    day_name: u64,
+    mansion: u64,
+    terms: [TermRecord; 24],
+    buf: &mut [u8],
+) -> Written
+    ensures { λ r. ⌜ (saidWritten r ≡ done (writeAnswer (givenYear n «day_name» mansion terms) (now (buf .entry)))) × (now (buf .exit) ≡ afterwards (now (buf .entry)) (writeAnswer (givenYear n «day_name» mansion terms) (now (buf .entry)))) ⌝ }
+{
+    let Number::Is(number) = units::year_index(n) else {
+        return Written::Refused(Refusal::YearOutside);
+    };
+    if buf.len() < 149 {
+        return Written::Refused(Refusal::TooShort);
+    }
+    if 59 < day_name {
+        return Written::Refused(Refusal::FieldOutside);
+    }
+    if 27 < mansion {
+        return Written::Refused(Refusal::FieldOutside);
+    }
+    if any_bad(terms) {
+        return Written::Refused(Refusal::FieldOutside);
+    }
+    put_head(buf, number, day_name, mansion);
+    put_terms(buf, terms);
+    Written::Done
+}

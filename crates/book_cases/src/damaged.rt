@@ -1,0 +1,135 @@
+// Of each damaged book: what checking it, seeking the year 0 in it and reading its first year answer.
+use crate::bytes::byte_at;
+use crate::bytes::two_at;
+use crate::print::number;
+use crate::print::refused;
+use crate::print::refused_at;
+use crate::print::signed;
+use crate::print::text;
+use book::BookAnswer;
+use book::ReadYear;
+use book::Sought;
+use sun::TermRecord;
+ghost use Prim.Native.Nat.{_≤_};
+
+// The years -676, 0 and 321, and zeros after them.
+fn fill(room: &mut [u8]) {
+    if room.len() < 600 {
+        return;
+    }
+    book::write_year(-676, room);
+    book::write_year(0, &mut room[149..]);
+    book::write_year(321, &mut room[298..]);
+}
+
+fn base_book() -> [u8; 600] {
+    let mut room = [0u8; 600];
+    fill(&mut room);
+    room
+}
+
+fn checked(bytes: &[u8]) {
+    match book::check_book(bytes) {
+        BookAnswer::Sound(_) => text(b"sound"),
+        BookAnswer::Refused(refusal, byte) => refused_at(refusal, byte),
+    }
+}
+
+fn sought(bytes: &[u8]) {
+    match book::seek_year(bytes, 0) {
+        Sought::Found(start, end) => {
+            number(start as u64);
+            text(b" to ");
+            number(end as u64);
+        }
+        Sought::Unsound(refusal, byte) => refused_at(refusal, byte),
+        Sought::Refused(refusal) => refused(refusal),
+    }
+}
+
+fn moment(term: TermRecord) {
+    text(b" ");
+    signed(term.day);
+    text(b":");
+    number(term.minute);
+}
+
+fn values(year: ReadYear) {
+    signed(year.n);
+    text(b" ");
+    number(year.day_name);
+    text(b" ");
+    number(year.mansion);
+    let terms = year.terms;
+    moment(terms[0]);
+    moment(terms[11]);
+    moment(terms[23]);
+}
+
+fn first(bytes: &[u8]) {
+    let year = book::read_year(bytes);
+    let answer = year.answer;
+    match answer {
+        BookAnswer::Sound(_) => values(year),
+        BookAnswer::Refused(refusal, byte) => refused_at(refusal, byte),
+    }
+}
+
+fn line(bytes: &[u8]) {
+    checked(bytes);
+    text(b" | ");
+    sought(bytes);
+    text(b" | ");
+    first(bytes);
+    text(b"\n");
+}
+
+fn put(bytes: &mut [u8], place: usize, byte: u8) {
+    if place < bytes.len() {
+        bytes[place] = byte;
+    }
+}
+
+// So many bytes changed, each given as its place and the byte.
+fn change(input: &[u8], from: usize, changes: usize, bytes: &mut [u8])
+    requires { ⌜ (from ≤ 200_000) × (changes ≤ 65_535) ⌝ }
+{
+    for i in 0..changes {
+        let place = two_at(input, from + 3 * i);
+        put(bytes, place, byte_at(input, from + 3 * i + 2));
+    }
+}
+
+fn changed_line(input: &[u8], at: usize, bytes: &mut [u8])
+    requires { ⌜ at ≤ 131_072 ⌝ }
+{
+    let len = two_at(input, at);
+    change(input, at + 4, two_at(input, at + 2), bytes);
+    if len <= bytes.len() {
+        line(&bytes[..len]);
+    }
+}
+
+// One damaged book; answers where the next one starts.
+fn case(input: &[u8], at: usize, base: [u8; 600]) -> usize
+    requires { ⌜ at ≤ 131_072 ⌝ }
+    ensures { λ r. ⌜ r ≤ 400_000 ⌝ }
+{
+    let mut bytes = base;
+    changed_line(input, at, &mut bytes);
+    at + 4 + 3 * two_at(input, at + 2)
+}
+
+pub(crate) fn lines(input: &[u8]) {
+    let base = base_book();
+    let mut at = 0;
+    for turn in 0..10_000u64 {
+        if 131_072 < at {
+            return;
+        }
+        if input.len() <= at {
+            return;
+        }
+        at = case(input, at, base);
+    }
+}

@@ -1,0 +1,204 @@
+"""The term book by document 01's rules alone: years written, books read, and the damaged books that the
+program book_cases is run on. Shares nothing with the Rattle sources; expected.py writes its files.
+"""
+
+import random
+
+from expected import Refused, day_name, mansion, term_values
+
+YEAR_KIND, TERM_KIND = 1, 2
+BODY = {YEAR_KIND: 4, TERM_KIND: 5}
+
+
+def two_bytes(number):
+    return bytes([number // 256, number % 256])
+
+
+def number_at(book, at):
+    return 256 * book[at] + book[at + 1]
+
+
+# Writing.
+
+
+def bytes_of(n, name, house, moments):
+    head = bytes([YEAR_KIND]) + two_bytes(n + 2000) + bytes([name, house])
+    terms = (bytes([TERM_KIND, k]) + two_bytes(day + 4) + two_bytes(minute) for k, (day, minute) in enumerate(moments))
+    return head + b"".join(terms)
+
+
+def year_bytes(n):
+    return bytes_of(n, day_name(n), mansion(n), [term_values(n, k)[:2] for k in range(24)])
+
+
+def into(buffer, room, year):
+    """The buffer after a year is written into its first `room` bytes."""
+    if room < 149:
+        raise Refused(6)
+    return year + buffer[149:]
+
+
+def write_year(n, buffer, room):
+    day_name(n)  # refuses 1
+    return into(buffer, room, year_bytes(n))
+
+
+def write_values(n, name, house, day, minute, buffer, room):
+    day_name(n)  # refuses 1
+    into(buffer, room, bytes(149))  # refuses 6
+    if name > 59 or house > 27 or not -4 <= day <= 370 or minute > 1439:
+        raise Refused(9)
+    return into(buffer, room, bytes_of(n, name, house, [(day, minute)] * 24))
+
+
+def written_lines():
+    buffer = bytes([238] * 152)
+    years = [(-2001, 152), (-2000, 149), (-676, 150), (-1, 152), (0, 149), (0, 148), (0, 0), (1, 152), (2000, 152), (2001, 148)]
+    values = [(-2000, 0, 0, -4, 0, 149), (2000, 59, 27, 370, 1439, 152), (2001, 60, 28, 371, 1440, 148)]
+    values += [(2000, 60, 28, 371, 1440, 148), (2000, 60, 27, 370, 1439, 149), (2000, 59, 28, 370, 1439, 149)]
+    values += [(2000, 59, 27, 371, 1439, 149), (2000, 59, 27, -5, 1439, 149), (2000, 59, 27, 370, 1440, 149)]
+    calls = [(f"year {n} in {room}", write_year, (n, buffer, room)) for n, room in years]
+    calls += [("values {} {} {} {} {} in {}".format(*v), write_values, (*v[:5], buffer, v[5])) for v in values]
+    for name, call, given in calls:
+        try:
+            yield f"{name}: done {call(*given).hex()}"
+        except Refused as refusal:
+            yield f"{name}: refused {refusal.args[0]} {buffer.hex()}"
+
+
+# Reading. A book's refusal has its number and the byte where the record at fault starts.
+
+
+def next_record(book, at, due, last):
+    """Where the next record starts, after the tests in their order: 8, 7, 10, 9. `due` is "year", or a term's k."""
+    kind = book[at]
+    if kind not in BODY:
+        raise Refused(8, at)
+    end = at + 1 + BODY[kind]
+    if end > len(book):
+        raise Refused(7, at)
+    if kind == YEAR_KIND:
+        in_turn = due == "year" and number_at(book, at + 1) > last
+        in_range = number_at(book, at + 1) <= 4000 and book[at + 3] <= 59 and book[at + 4] <= 27
+    else:
+        in_turn = book[at + 1] == due
+        in_range = number_at(book, at + 2) <= 374 and number_at(book, at + 4) <= 1439
+    if not in_turn:
+        raise Refused(10, at)
+    if not in_range:
+        raise Refused(9, at)
+    return end
+
+
+def year_end(book, at, last):
+    """Where the year that starts at a byte ends."""
+    for due in ["year", *range(24)]:
+        if at == len(book):
+            raise Refused(10, at)
+        at = next_record(book, at, due, last)
+    return at
+
+
+def years_of(book):
+    """N, start and end of each year."""
+    at, last, years = 0, -1, []
+    while at < len(book):
+        end = year_end(book, at, last)
+        last = number_at(book, at + 1)
+        years.append((last - 2000, at, end))
+        at = end
+    return years
+
+
+def said(call, *given):
+    try:
+        return call(*given)
+    except Refused as refusal:
+        return "refused " + " at ".join(str(part) for part in refusal.args)
+
+
+def checked(book):
+    years_of(book)
+    return "sound"
+
+
+def sought(book, n):
+    for year, start, end in years_of(book):
+        if year == n:
+            return f"{start} to {end}"
+    raise Refused(12)
+
+
+def first_year(book):
+    year_end(book, 0, -1)
+    moments = [(number_at(book, 6 * k + 7) - 4, number_at(book, 6 * k + 9)) for k in (0, 11, 23)]
+    return " ".join([f"{number_at(book, 1) - 2000} {book[3]} {book[4]}"] + [f"{day}:{minute}" for day, minute in moments])
+
+
+# Damage.
+
+BASE = b"".join(year_bytes(n) for n in (-676, 0, 321))
+ROOM = 600  # the base is followed by zeros up to here, so that a longer book is a change of it too
+
+
+def fields(record):
+    """Offset and size of each field of a record, with its least, last good and first bad values."""
+    if record[0] == YEAR_KIND:
+        return [(1, 2, (0, 4000, 4001)), (3, 1, (0, 59, 60)), (4, 1, (0, 27, 28))]
+    return [(1, 1, (0, 23, 24)), (2, 2, (0, 374, 375)), (4, 2, (0, 1439, 1440))]
+
+
+def damaged_books():
+    for length in range(len(BASE) + 1):
+        yield BASE[:length]
+    starts = [0]
+    while starts[-1] < len(BASE):
+        starts.append(starts[-1] + 1 + BODY[BASE[starts[-1]]])
+    records = [BASE[start:end] for start, end in zip(starts, starts[1:])]
+    for i, record in enumerate(records):
+        at = starts[i]
+        for kind in (0, 1, 2, 3, 4, 127, 128, 255):
+            yield BASE[:at] + bytes([kind]) + BASE[at + 1 :]
+        yield b"".join(records[:i] + records[i + 1 :])  # dropped
+        yield b"".join(records[: i + 1] + records[i:])  # doubled
+        yield b"".join(records[:i] + records[i + 1 : i + 2] + [record] + records[i + 2 :])  # swapped with the next
+        for offset, size, values in fields(record):
+            for value in values:
+                field = two_bytes(value) if size == 2 else bytes([value])
+                yield BASE[: at + offset] + field + BASE[at + offset + size :]
+    for first, second in [(0, 0), (1, 0), (0, 1), (-2000, 2000), (2000, -2000)]:
+        yield year_bytes(first) + year_bytes(second)
+    chance = random.Random(1684)
+    for _ in range(4000):
+        book = bytearray(BASE)
+        for _ in range(chance.randint(1, 4)):
+            # often a byte that some kind or field could have, so that the damage is not seen at once
+            likely = [0, 1, 2, 3, 5, 23, 24, 27, 28, 59, 60, chance.randrange(256)]
+            book[chance.randrange(len(book))] = chance.choice(likely)
+        if chance.randrange(4) == 0:
+            del book[chance.randrange(len(book)) :]
+        yield bytes(book)
+
+
+def change(book):
+    """How a book comes from BASE and the zeros after it: its length, how many bytes change, each place and byte."""
+    before = BASE + bytes(ROOM - len(BASE))
+    changes = [(i, byte) for i, byte in enumerate(book) if byte != before[i]]
+    return two_bytes(len(book)) + two_bytes(len(changes)) + b"".join(two_bytes(i) + bytes([byte]) for i, byte in changes)
+
+
+def case_input():
+    return b"".join(change(book) for book in damaged_books())
+
+
+def case_lines():
+    for book in damaged_books():
+        yield f"{said(checked, book)} | {said(sought, book, 0)} | {said(first_year, book)}"
+
+
+def expected_files():
+    lines = [*written_lines(), *case_lines()]
+    return [
+        ("crates/book_cases/stdin", case_input()),
+        ("crates/book_cases/stdout", "".join(line + "\n" for line in lines).encode()),
+    ]
