@@ -16,15 +16,20 @@ use denote.Triple.Clauses.{Ended, Clauses, Lasts, atExit}
 abbrev pub Contract : Ended → Type 2
 Contract T = (M : Type 1) (𝓤 : URA M) (H : Heap 𝓤) → Atoms 𝓤 → (Memory → SProp 𝓤) → (Routine → Fun 𝓤) → Clauses 𝓤 T
 
--- z and z′ are two results, w and w′ what the `&mut` parameters hold afterwards
-abbrev pub Held : (T : Ended) → Contract T → Type 2
-Held T clauses =
+-- z and z′ are two results, compared as `see` shows them, w and w′ what the `&mut` parameters hold afterwards
+abbrev pub Seen : (T : Ended) (View : Lfts (T .signature .lifetimes) → Type 0)
+    → ((κs : Lfts (T .signature .lifetimes)) → Res (T .signature) κs → View κs) → Contract T → Type 2
+Seen T View see clauses =
     (M : Type 1) (𝓤 : URA M) (H : Heap 𝓤) (A : Atoms 𝓤) (mem : Memory → SProp 𝓤) (run : Routine → Fun 𝓤)
     (κs : Lfts (T .signature .lifetimes)) (a : Args (T .signature) κs) (z z′ : Res (T .signature) κs) (w w′ : Lasts T κs a)
     (g g′ : clauses M 𝓤 H A mem run κs a .ghost)
     → ent 𝓤
     (conj 𝓤 (clauses M 𝓤 H A mem run κs a .ensures g z (atExit T κs a w)) (clauses M 𝓤 H A mem run κs a .ensures g′ z′ (atExit T κs a w′)))
-    (fact 𝓤 ((z ≡ z′) × (w ≡ w′)))
+    (fact 𝓤 ((see κs z ≡ see κs z′) × (w ≡ w′)))
+
+-- the result itself; a part of a lent slice is seen as its list
+abbrev pub Held : (T : Ended) → Contract T → Type 2
+Held T clauses = Seen T (λ κs. Res (T .signature) κs) (λ κs z. z) clauses
 
 -- two facts give a third
 pub by-facts : {M : Type 1} (𝓤 : URA M) {P Q R : Type 0} → (P → Q → R) → ent 𝓤 (conj 𝓤 (fact 𝓤 P) (fact 𝓤 Q)) (fact 𝓤 R)
