@@ -7,6 +7,7 @@ from their series, the numbers are Python's unbounded ones, and each rule is the
     python3 tests/expected.py --check   writes nothing; names the files that differ and exits 1 if any does
 """
 
+import re
 import sys
 from decimal import ROUND_HALF_UP, Decimal, getcontext
 from pathlib import Path
@@ -396,10 +397,70 @@ def local_lines():
         yield local_line(*given)
 
 
+# The solstice program: a request line, what is written for it, the lines of an input; all in bytes.
+
+DOCUMENT_LINES = [b"-676", b"-1", b"0", b"1", b"2001", b"x"]
+READ_SIZE = 2048  # what the program reads at a time; only the choice of cases depends on it
+
+
+def year_asked(line):
+    """The N of a request line: an optional minus and one to four digits, or refused 11."""
+    if not re.fullmatch(rb"-?[0-9]{1,4}", line):
+        raise Refused(11)
+    return int(line)
+
+
+def solstice_line(line):
+    n = year_asked(line)
+    hour, minute, _ = clock_of_solstice(n)
+    return f"{n} {day_name(n)} {hour:02}:{minute:02} {mansion(n)}"
+
+
+def lines_of(given):
+    """Each line ends at a newline; a last line without its newline counts if it has bytes."""
+    *lines, rest = given.split(b"\n")
+    return [*lines, rest] if rest else lines
+
+
+def document_input():
+    return b"".join(line + b"\n" for line in DOCUMENT_LINES)
+
+
+def cases_input():
+    """No line, no year, the limits, a line longer than any buffer, and lines across every place of a read."""
+    odd = [b"", b"", b"", b"\0", b"1\0", b"\r", b"1\r", b"+1", b" 1", b"1 ", b"--1", b"-", b"-0", b"0000", b"-0000", b"00001"]
+    odd += [b"12345", b"2000", b"-2000", b"2001", b"-2001", b"9999", b"-9999", b"1-", b"0x1", b"/", b":", b"\xff", b"1\t", b"1e3"]
+    long = [b"1" * 70_000, b"0" * 70_000, b"-" + b"7" * (READ_SIZE - 1), b"5" * READ_SIZE]
+    # 29 bytes with their newlines, an odd number: over 29 reads each of them comes to stand at a read's end.
+    across = [b"", b"7", b"-9", b"123", b"-676", b"-2000", b"1234567"] * (30 * READ_SIZE // 29)
+    years = [str(n).encode() for n in range(-2005, 2006)]
+    last_without_newline = b"-1"
+    return b"".join(line + b"\n" for line in [*odd, *long, *across, *years]) + last_without_newline
+
+
+def answers_to(given):
+    return "".join(answer(solstice_line, line) + "\n" for line in lines_of(given)).encode()
+
+
 # Each program's expected output, and the parts that it prints in order.
 EXPECTED_FILES = [
     ("crates/compared/stdout", [tables_lines, year_lines, equation_lines, place_lines, term_lines, local_lines]),
 ]
+
+# Each program that reads: its crate's folder, and the input whose answers it writes.
+INPUTS = [("crates/solstice", document_input()), ("crates/solstice_cases", cases_input())]
+
+
+def expected_files():
+    """Every expected file's path and bytes."""
+    import term_book  # here, since it takes its values from this file
+
+    for path, parts in EXPECTED_FILES:
+        yield path, "".join(line + "\n" for part in parts for line in part()).encode()
+    for folder, given in INPUTS:
+        yield f"{folder}/stdin", given
+        yield f"{folder}/stdout", answers_to(given)
+    yield from term_book.expected_files()
 
 
 def main(arguments):
@@ -408,12 +469,8 @@ def main(arguments):
     assert_table_rules()
     assert_marked_table()
     assert_compared_figures()
-    import term_book  # here, since it takes the reckoner from this file
-
-    files = [(path, "".join(line + "\n" for part in parts for line in part()).encode()) for path, parts in EXPECTED_FILES]
-    files += term_book.expected_files()
     differing = []
-    for path, expected in files:
+    for path, expected in expected_files():
         file = ROOT_FOLDER / path
         if not arguments:
             file.parent.mkdir(parents=True, exist_ok=True)

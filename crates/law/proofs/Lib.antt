@@ -15,5 +15,6 @@ pub mod Edges
 pub mod Places
 pub mod InOrder
 pub mod WorkedTerms
+pub mod WorkedLines
 pub mod LocalTime
 pub mod HeldFast

@@ -4,5 +4,6 @@ pub mod Entry
 pub mod Round
 pub mod Answer
 pub mod Document
+pub mod Request
 pub mod Working
 pub mod Book
