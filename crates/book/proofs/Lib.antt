@@ -13,3 +13,4 @@ pub mod BackAndThere
 pub mod WholeBooks
 pub mod HeldFast
 pub mod SeekFinds
+pub mod BookAgain
