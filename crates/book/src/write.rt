@@ -30,12 +30,12 @@ fn is_bad(term: TermRecord) -> bool
 fn any_bad(terms: [TermRecord; 24]) -> bool
     ensures { λ r. ⌜ r ≡ anyBad (map valuesOf terms) ⌝ }
 {
-    let mut k: usize = 0;
-    while k < 24 {
-        if is_bad(terms[k]) {
+    let mut i: usize = 0;
+    while i < 24 {
+        if is_bad(terms[i]) {
             return true;
         }
-        k += 1;
+        i += 1;
     }
     false
 }

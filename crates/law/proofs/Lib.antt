@@ -16,5 +16,6 @@ pub mod Places
 pub mod InOrder
 pub mod WorkedTerms
 pub mod WorkedLines
+pub mod WorkedBooks
 pub mod LocalTime
 pub mod HeldFast

@@ -1,4 +1,4 @@
--- The terms from k on decide at each turn. Assumes nothing.
+-- The terms from i on decide at each turn. Assumes nothing.
 use mathlib.Core.Path.{_≡_, refl, sym, _∙_}
 use mathlib.Core.List.{map}
 use Prim.Native.Nat.{_-_, _≤_}
@@ -12,10 +12,10 @@ use Rattle.book.proofs.write.any_bad.Statement.{statement}
 use Rattle.book.proofs.write.any_bad.Tie as tie
 
 abbrev Inv-loop : tie.InvT-loop
-Inv-loop terms k₀ k = (k ≤ 24) × (length terms ≡ 24) × (anyBad (drop k (map valuesOf terms)) ≡ anyBad (map valuesOf terms))
+Inv-loop terms i₀ i = (i ≤ 24) × (length terms ≡ 24) × (anyBad (drop i (map valuesOf terms)) ≡ anyBad (map valuesOf terms))
 
 abbrev μ-loop : tie.MeasureT-loop
-μ-loop terms k₀ k = 24 - k
+μ-loop terms i₀ i = 24 - i
 
 loop-holds : tie.Need-loop-holds Inv-loop μ-loop
 loop-holds c = (omega arith, c .good .0 .1 .0 .1, refl)
@@ -32,10 +32,10 @@ is-bad-requires c κs = search needs
 returns : tie.Need-returns Inv-loop μ-loop
 returns c = let l = c .before .before .before .before .loop in
     let ts = c .before .before .before .before .before .args .t1 in
-    sym (bad-here (l .k) (map valuesOf ts) (valuesOf (getD ts (l .k) blank)) (term-next ts (l .k) (omega (arith, l .inv .1))) (sym (c .before .is-bad .ensures) ∙ c .if1 .taken)) ∙ l .inv .2
+    sym (bad-here (l .i) (map valuesOf ts) (valuesOf (getD ts (l .i) blank)) (term-next ts (l .i) (omega (arith, l .inv .1))) (sym (c .before .is-bad .ensures) ∙ c .if1 .taken)) ∙ l .inv .2
 
-add-k : tie.Need-add-k Inv-loop μ-loop
-add-k c = omega arith
+add-i : tie.Need-add-i Inv-loop μ-loop
+add-i c = omega arith
 
 loop-less : tie.Need-loop-less Inv-loop μ-loop
 loop-less c = omega arith
@@ -43,12 +43,12 @@ loop-less c = omega arith
 loop-again : tie.Need-loop-again Inv-loop μ-loop
 loop-again c = let l = c .before .before .before .before .loop in
     let ts = c .before .before .before .before .before .args .t1 in
-    (omega arith, l .inv .1, sym (bad-later (l .k) (map valuesOf ts) (valuesOf (getD ts (l .k) blank)) (term-next ts (l .k) (omega (arith, l .inv .1))) (sym (c .before .is-bad .ensures) ∙ c .if1 .left)) ∙ l .inv .2)
+    (omega arith, l .inv .1, sym (bad-later (l .i) (map valuesOf ts) (valuesOf (getD ts (l .i) blank)) (term-next ts (l .i) (omega (arith, l .inv .1))) (sym (c .before .is-bad .ensures) ∙ c .if1 .left)) ∙ l .inv .2)
 
 returns-2 : tie.Need-returns-2 Inv-loop μ-loop
 returns-2 c = let l = c .before .loop in
     let ts = c .before .before .args .t1 in
-    sym (bad-none (l .k) (map valuesOf ts) (omega (arith, length-map ts valuesOf, l .inv .1))) ∙ l .inv .2
+    sym (bad-none (l .i) (map valuesOf ts) (omega (arith, length-map ts valuesOf, l .inv .1))) ∙ l .inv .2
 
 pub any-bad-spec : {M : Type 1} → statement M
 any-bad-spec =
@@ -61,7 +61,7 @@ any-bad-spec =
     array-copy-out-is-bad
     is-bad-requires
     returns
-    add-k
+    add-i
     loop-less
     loop-again
     returns-2)
