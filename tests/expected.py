@@ -448,7 +448,12 @@ EXPECTED_FILES = [
 ]
 
 # Each program that reads: its crate's folder, and the input whose answers it writes.
-INPUTS = [("crates/solstice", document_input()), ("crates/solstice_cases", cases_input())]
+INPUTS = [
+    ("crates/solstice", document_input()),
+    ("crates/solstice_cases", cases_input()),
+    ("crates/solstice_newline", b"\n"),
+    ("crates/solstice_nothing", b""),
+]
 
 
 def expected_files():

@@ -4,7 +4,7 @@ program book_cases is run on. Shares nothing with the Rattle sources; expected.p
 
 import random
 
-from expected import Refused, day_name, mansion, term_values
+from expected import Refused, day_name, lines_of, mansion, term_values, year_asked
 
 YEAR_KIND, TERM_KIND = 1, 2
 BODY = {YEAR_KIND: 4, TERM_KIND: 5}
@@ -196,9 +196,35 @@ def case_lines():
         yield f"{said(checked, book)} | {said(sought, book, 0)} | {said(first_year, book)}"
 
 
+# The program that writes the book of the year asked by its input's first line.
+
+
+def first_year_asked(given):
+    lines = lines_of(given)
+    if not lines:
+        raise Refused(11)
+    return year_asked(lines[0])
+
+
+def book_asked(given):
+    try:
+        return year_bytes(first_year_asked(given))
+    except Refused as refusal:
+        return f"refused {refusal.args[0]}\n".encode()
+
+
+BOOK_INPUTS = [
+    ("crates/termbook", b"-676\nnot read\n"),
+    ("crates/termbook_refused", b"2001"),
+    ("crates/termbook_nothing", b""),
+]
+
+
 def expected_files():
     lines = [*written_lines(), *case_lines()]
     return [
         ("crates/book_cases/stdin", case_input()),
         ("crates/book_cases/stdout", "".join(line + "\n" for line in lines).encode()),
+        *((f"{folder}/stdin", given) for folder, given in BOOK_INPUTS),
+        *((f"{folder}/stdout", book_asked(given)) for folder, given in BOOK_INPUTS),
     ]

@@ -1,5 +1,6 @@
 // Answers each line of standard input, in order: a year's mean solstice and mansion, or a refusal. It
 // keeps the line so far as a small state, so memory does not grow; a write is made for a block read, not for a line.
+use libc::STDERR_FILENO;
 use libc::STDIN_FILENO;
 use libc::STDOUT_FILENO;
 use request::Line;
@@ -35,28 +36,35 @@ fn turn(line: Line) -> Turned {
     }
 }
 
-// The answer to a last line without its newline.
-fn last(line: Line) {
+// The answer to a last line without its newline. Says whether it was written.
+fn last(line: Line) -> bool {
     let mut out = [0u8; 32];
     let n = request::finish(line, &mut out);
-    io::write_all(STDOUT_FILENO, &out[..n]);
+    io::write_all(STDOUT_FILENO, &out[..n])
 }
 
-// A proved loop has to end, and nothing says that an input does: so the turns are counted down, from a number that no run uses up.
-fn main() {
+// All lines. Says whether all was written. A proved loop has to end, and nothing says that an input does: so the turns are counted
+// down, from a number that no run uses up.
+fn answer_lines() -> bool {
     let mut line = Line::Empty;
     let mut turns = u64::MAX;
     while turns > 0 {
         let turned = turn(line);
         line = turned.line;
         if turned.failed {
-            return;
+            return false;
         }
         if turned.ended {
-            last(line);
-            return;
+            return last(line);
         }
         turns -= 1;
     }
-    last(line);
+    last(line)
+}
+
+// There is no exit status to give: a failed write is told on standard error.
+fn main() {
+    if !answer_lines() {
+        io::write_all(STDERR_FILENO, b"the answers could not be written\n");
+    }
 }

@@ -1,7 +1,7 @@
 -- The turns that are left fall by one at each turn. Assumes nothing.
 use native.Mathlib.Omega.{arith}
-use Rattle.solstice_cases.proofs.main.Statement.{statement}
-use Rattle.solstice_cases.proofs.main.Tie as tie
+use Rattle.solstice_cases.proofs.answer_lines.Statement.{statement}
+use Rattle.solstice_cases.proofs.answer_lines.Tie as tie
 
 abbrev Inv-loop : tie.InvT-loop
 Inv-loop line₀ turns₀ line turns = Unit {0}
@@ -39,8 +39,8 @@ last-requires-2 c κs = tt
 returns-3 : tie.Need-returns-3 Inv-loop μ-loop
 returns-3 c = tt
 
-pub main-spec : {M : Type 1} → statement M
-main-spec =
+pub answer-lines-spec : {M : Type 1} → statement M
+answer-lines-spec =
     tie.close
     (tie.spec
     Inv-loop
