@@ -12,12 +12,10 @@ struct Turned {
     failed: bool,
 }
 
-// One read, and the answers to the lines that end in it. The buffer has the 32 bytes that `feed` asks for each byte read.
-fn turn(line: Line) -> Turned {
-    let mut block = [0u8; 2048];
-    let mut out = [0u8; 65536];
-    let got = libc::read(STDIN_FILENO, &mut block);
-    let n = io::count(got, &block);
+// One read, and the answers to the lines that end in it.
+fn turn(line: Line, block: &mut [u8], out: &mut [u8]) -> Turned {
+    let got = libc::read(STDIN_FILENO, block);
+    let n = io::count(got, block);
     if n == 0 {
         return Turned {
             line,
@@ -25,7 +23,7 @@ fn turn(line: Line) -> Turned {
             failed: false,
         };
     }
-    let fed = request::feed(line, &block[..n], &mut out);
+    let fed = request::feed(line, &block[..n], out);
     let next = fed.line;
     let written = fed.written;
     let done = io::write_all(STDOUT_FILENO, &out[..written]);
@@ -46,10 +44,13 @@ fn last(line: Line) -> bool {
 // All lines. Says whether all was written. A proved loop has to end, and nothing says that an input does: so the turns are counted
 // down, from a number that no run uses up.
 fn answer_lines() -> bool {
+    // made once, not at each read; and `feed` asks for 32 bytes of out for each byte of block
+    let mut block = [0u8; 2048];
+    let mut out = [0u8; 65536];
     let mut line = Line::Empty;
     let mut turns = u64::MAX;
     while turns > 0 {
-        let turned = turn(line);
+        let turned = turn(line, &mut block, &mut out);
         line = turned.line;
         if turned.failed {
             return false;

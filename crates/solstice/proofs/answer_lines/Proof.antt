@@ -1,16 +1,24 @@
--- The turns that are left fall by one at each turn. Assumes nothing.
+-- The turns that are left fall by one at each turn, and both buffers keep their lengths. Assumes nothing.
+use mathlib.Core.Path.{_≡_, refl}
+use lib.ListN.{length}
 use native.Mathlib.Omega.{arith}
 use Rattle.solstice.proofs.answer_lines.Statement.{statement}
 use Rattle.solstice.proofs.answer_lines.Tie as tie
 
 abbrev Inv-loop : tie.InvT-loop
-Inv-loop line₀ turns₀ line turns = Unit {0}
+Inv-loop block₀ out₀ line₀ turns₀ block out line turns = (2048 ≡ length block) × (65536 ≡ length out)
 
 abbrev μ-loop : tie.MeasureT-loop
-μ-loop line₀ turns₀ line turns = turns
+μ-loop block₀ out₀ line₀ turns₀ block out line turns = turns
 
 loop-holds : tie.Need-loop-holds Inv-loop μ-loop
-loop-holds c = tt
+loop-holds c = (refl, refl)
+
+slice-aggregate-turn : tie.Need-slice-aggregate-turn Inv-loop μ-loop
+slice-aggregate-turn c = c .before .before .loop .inv .0
+
+slice-aggregate-turn-2 : tie.Need-slice-aggregate-turn-2 Inv-loop μ-loop
+slice-aggregate-turn-2 c = c .before .before .before .loop .inv .1
 
 turn-requires : tie.Need-turn-requires Inv-loop μ-loop
 turn-requires c κs = tt
@@ -31,7 +39,7 @@ loop-less : tie.Need-loop-less Inv-loop μ-loop
 loop-less c = omega arith
 
 loop-again : tie.Need-loop-again Inv-loop μ-loop
-loop-again c = tt
+loop-again c = (omega (arith, c .before .before .before .before .turn), omega (arith, c .before .before .before .before .turn))
 
 last-requires-2 : tie.Need-last-requires-2 Inv-loop μ-loop
 last-requires-2 c κs = tt
@@ -46,6 +54,8 @@ answer-lines-spec =
     Inv-loop
     μ-loop
     loop-holds
+    slice-aggregate-turn
+    slice-aggregate-turn-2
     turn-requires
     returns
     last-requires
