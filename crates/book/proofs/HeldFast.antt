@@ -1,15 +1,14 @@
 -- Each public function's promise holds its answer fast, and the buffer afterwards. Assumes nothing.
 use mathlib.Core.Path.{_≡_, refl, ap, ap₂, sym, _∙_}
-use mathlib.Core.List.{List, [], _∷_, map}
+use mathlib.Core.List.{List, map}
 use Prim.Native.Nat.{ℕ}
 use denote.Ref.{now}
 use Rattle.law.specs.Answer.{Answer, value, refused}
-use Rattle.law.specs.Document.{TermValues}
 use Rattle.law.specs.Book.{BookYear, Checked, sound, faulty, Next, nextYear, bookEnd, stop, Sought, found, unsound, noYear}
 use Rattle.law.proofs.HeldFast.{Seen, Held, by-facts, one, one-said}
 use Rattle.units.proofs.HeldFast.{refusalOf, refusal-back}
 use Rattle.sun.specs.declared.term.TermRecord.{TermRecord}
-use Rattle.sun.specs.Said.{valuesOf}
+use Rattle.sun.proofs.HeldFast.{recordFrom, records-back}
 use Rattle.book.specs.declared.read.ReadYear.{ReadYear}
 use Rattle.book.specs.declared.write.Written.{Written}
 use Rattle.book.specs.declared.write.Written.the-variants as written
@@ -65,13 +64,6 @@ writtenFrom (refused n) = written.Refused (refusalOf n)
 written-back : (r : Written) → writtenFrom (saidWritten r) ≡ r
 written-back written.Done = refl
 written-back (written.Refused r) = ap written.Refused (refusal-back r)
-
-abbrev recordFrom : TermValues → TermRecord
-recordFrom v = record { day = v .dayOfTerm; minute = v .minuteOfTerm; count = v .midnights }
-
-records-back : (l : List TermRecord) → map recordFrom (map valuesOf l) ≡ l
-records-back [] = refl
-records-back (x ∷ xs) = ap (λ (r : List TermRecord). x ∷ r) (records-back xs)
 
 -- ---- the functions
 

@@ -34,7 +34,7 @@ year-back : (r : YearAnswer) → yearFrom (saidYear r) ≡ r
 year-back (year.Is v) = refl
 year-back (year.Refused r) = ap year.Refused (refusal-back r)
 
-abbrev recordFrom : TermValues → TermRecord
+abbrev pub recordFrom : TermValues → TermRecord
 recordFrom v = record { day = v .dayOfTerm; minute = v .minuteOfTerm; count = v .midnights }
 
 abbrev termFrom : Answer TermValues → TermAnswer
@@ -45,7 +45,7 @@ term-back : (r : TermAnswer) → termFrom (saidTerm r) ≡ r
 term-back (term.Is v) = refl
 term-back (term.Refused r) = ap term.Refused (refusal-back r)
 
-records-back : (l : List TermRecord) → map recordFrom (map valuesOf l) ≡ l
+pub records-back : (l : List TermRecord) → map recordFrom (map valuesOf l) ≡ l
 records-back [] = refl
 records-back (x ∷ xs) = ap (λ (r : List TermRecord). x ∷ r) (records-back xs)
 
