@@ -19,3 +19,4 @@ pub mod WorkedLines
 pub mod WorkedBooks
 pub mod LocalTime
 pub mod HeldFast
+pub mod ByHand
