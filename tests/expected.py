@@ -371,10 +371,22 @@ def term_lines():
     refusals = [(-2001, 0), (2001, 23), (-2001, 24), (2001, 24), (0, 24), (0, 2**64 - 1), (-2000, 24), (2000, 24)]
     for n, k in [*refusals, (LEAST, 0), (GREATEST, 24)]:
         yield f"term {n} {k}: {answer(term, n, k)}"
-    for n in (-2001, -2000, -1337, 0, 2000, 2001):
-        yield f"list {n}" if -2000 <= n <= 2000 else f"refused 1 list {n}"
-        for k in range(24):
-            yield f"term {n} {k}: {term(n, k) if -2000 <= n <= 2000 else 'day 0 minute 0 count 0'}"
+
+
+def year_call(n, room):
+    """What the year call says, and the records that a list of so many then begins with."""
+    if not -2000 <= n <= 2000:
+        return "refused 1", []
+    if room < 24:
+        return "refused 6", []
+    return "all", [term(n, k) for k in range(24)]
+
+
+def list_lines():
+    for n, room in ((-2001, 24), (-2000, 24), (-1337, 26), (-1, 25), (0, 24), (0, 23), (0, 0), (2000, 26), (2001, 23)):
+        said, records = year_call(n, room)
+        yield f"list {n} in {room}: {said}"
+        yield from records + ["day 7 minute 7 count 7"] * (26 - len(records))
 
 
 def local_line(day, minute, longitude):
@@ -444,7 +456,7 @@ def answers_to(given):
 
 # Each program's expected output, and the parts that it prints in order.
 EXPECTED_FILES = [
-    ("crates/compared/stdout", [tables_lines, year_lines, equation_lines, place_lines, term_lines, local_lines]),
+    ("crates/compared/stdout", [tables_lines, year_lines, equation_lines, place_lines, term_lines, list_lines, local_lines]),
 ]
 
 # Each program that reads: its crate's folder, and the input whose answers it writes.

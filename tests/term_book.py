@@ -43,8 +43,11 @@ def write_year(n, buffer, room):
     return into(buffer, room, year_bytes(n))
 
 
-def write_values(n, name, house, day, minute, buffer, room):
+def write_values(n, name, house, day, minute, listed, buffer, room):
+    """From a list of so many equal terms."""
     day_name(n)  # refuses 1
+    if listed < 24:
+        raise Refused(6)
     into(buffer, room, bytes(149))  # refuses 6
     if name > 59 or house > 27 or not -4 <= day <= 370 or minute > 1439:
         raise Refused(9)
@@ -54,11 +57,12 @@ def write_values(n, name, house, day, minute, buffer, room):
 def written_lines():
     buffer = bytes([238] * 152)
     years = [(-2001, 152), (-2000, 149), (-676, 150), (-1, 152), (0, 149), (0, 148), (0, 0), (1, 152), (2000, 152), (2001, 148)]
-    values = [(-2000, 0, 0, -4, 0, 149), (2000, 59, 27, 370, 1439, 152), (2001, 60, 28, 371, 1440, 148)]
-    values += [(2000, 60, 28, 371, 1440, 148), (2000, 60, 27, 370, 1439, 149), (2000, 59, 28, 370, 1439, 149)]
-    values += [(2000, 59, 27, 371, 1439, 149), (2000, 59, 27, -5, 1439, 149), (2000, 59, 27, 370, 1440, 149)]
+    values = [(-2000, 0, 0, -4, 0, 24, 149), (2000, 59, 27, 370, 1439, 26, 152), (2001, 60, 28, 371, 1440, 23, 148)]
+    values += [(2000, 60, 28, 371, 1440, 24, 148), (2000, 60, 28, 371, 1440, 23, 149), (2000, 59, 27, 370, 1439, 23, 149)]
+    values += [(2000, 59, 27, 370, 1439, 0, 152), (2000, 60, 27, 370, 1439, 24, 149), (2000, 59, 28, 370, 1439, 25, 149)]
+    values += [(2000, 59, 27, 371, 1439, 24, 149), (2000, 59, 27, -5, 1439, 24, 149), (2000, 59, 27, 370, 1440, 24, 149)]
     calls = [(f"year {n} in {room}", write_year, (n, buffer, room)) for n, room in years]
-    calls += [("values {} {} {} {} {} in {}".format(*v), write_values, (*v[:5], buffer, v[5])) for v in values]
+    calls += [("values {} {} {} {} {} of {} in {}".format(*v), write_values, (*v[:6], buffer, v[6])) for v in values]
     for name, call, given in calls:
         try:
             yield f"{name}: done {call(*given).hex()}"
@@ -129,10 +133,39 @@ def sought(book, n):
     raise Refused(12)
 
 
-def first_year(book):
+def read_year(book, room):
+    """N, day name, mansion and 24 records of the first year, for a list of so many."""
+    if room < 24:
+        raise Refused(6)
     year_end(book, 0, -1)
-    moments = [(number_at(book, 6 * k + 7) - 4, number_at(book, 6 * k + 9)) for k in (0, 11, 23)]
-    return " ".join([f"{number_at(book, 1) - 2000} {book[3]} {book[4]}"] + [f"{day}:{minute}" for day, minute in moments])
+    moments = [(number_at(book, 6 * k + 7) - 4, number_at(book, 6 * k + 9), 0) for k in range(24)]
+    return (number_at(book, 1) - 2000, book[3], book[4]), moments
+
+
+def read_line(book, room):
+    """What reading says, and of 26 records, each 7 before, four afterwards."""
+    head, records = (0, 0, 0), []
+    try:
+        head, records = read_year(book, room)
+        answer = "read"
+    except Refused as refusal:
+        answer = "refused " + " at ".join(str(part) for part in refusal.args)
+    records = records + [(7, 7, 7)] * (26 - len(records))
+    return " ".join([answer, *map(str, head), *("{}:{}:{}".format(*records[k]) for k in (0, 11, 23, 24))])
+
+
+def handed_out(book):
+    """What a reader hands out at each of five calls: the part's length, and its year, the end or a refusal."""
+    at, last = 0, -1
+    for _ in range(5):
+        try:
+            end = year_end(book, at, last) if at < len(book) else at
+            if end > at:
+                last = number_at(book, at + 1)
+            yield f" {end - at}:{last if end > at else 'end'}"
+            at = end
+        except Refused as refusal:
+            yield " 0:refused {} at {}".format(*refusal.args)
 
 
 # Damage.
@@ -192,8 +225,11 @@ def case_input():
 
 
 def case_lines():
+    for book, room in [(BASE, 0), (BASE, 23), (BASE, 24), (BASE, 26), (b"", 23), (b"", 24)]:
+        yield f"room {room}: {read_line(book, room)}"
     for book in damaged_books():
-        yield f"{said(checked, book)} | {said(sought, book, 0)} | {said(first_year, book)}"
+        answers = said(checked, book), said(sought, book, 0), read_line(book, 25), "".join(handed_out(book))
+        yield " | ".join(answers)
 
 
 # The program that writes the book of the year asked by its input's first line.

@@ -6,12 +6,12 @@ use mathlib.Core.Path.{_≡_, sym, _∙_, ap}
 use Prim.Native.Nat.{ℕ, zero, suc, _+_, _-_, _≤_, _<_}
 use native.Mathlib.Omega.{arith}
 use native.Mathlib.Numerals.{add-one}
-use lib.IntN.{pos}
 use lib.ListN.{length, length-map, List·getD-map, getD, take, drop, set, length-drop, length-append, take-append-drop, drop-of-length-le}
 use lib.Seq.{sets-eq, drop-cons, drop-drop, take-append-add, drop-append-add, length-take-le}
 use Rattle.law.specs.Document.{TermValues}
 use Rattle.law.specs.Book.{twoOf, termsOf, dayCount, badTermValues, anyBad}
 use Rattle.sun.specs.Said.{valuesOf}
+use Rattle.sun.specs.Records.{blank}
 use Rattle.sun.specs.declared.term.TermRecord.{TermRecord}
 use Rattle.book.proofs.RecordAnswers.{both-no}
 
@@ -86,10 +86,6 @@ not-bad zero (x ∷ ts) t e h = both-no (badTermValues x) (anyBad ts) e .0
 not-bad (suc k) (x ∷ ts) t e h = not-bad k ts t (both-no (badTermValues x) (anyBad ts) e .1) (omega arith)
 
 -- ---- the terms as they are given to a call
-
--- any record to read past the end
-abbrev pub blank : TermRecord
-blank = record { day = pos 0; minute = 0; count = 0 }
 
 pub term-next : (ts : List TermRecord) (k : ℕ) → k < length ts
     → drop k (map valuesOf ts) ≡ valuesOf (getD ts k blank) ∷ drop (suc k) (map valuesOf ts)

@@ -1,14 +1,16 @@
--- Each public function's promise holds its answer fast, and the buffer afterwards. Assumes nothing.
+-- Each public function's promise holds its answer fast, and the buffer or the list afterwards. Assumes nothing.
 use mathlib.Core.Path.{_≡_, refl, ap, ap₂, sym, _∙_}
-use mathlib.Core.List.{List, map}
+use mathlib.Core.List.{List}
 use Prim.Native.Nat.{ℕ}
-use denote.Ref.{now}
+use borrow.Fn.Enter.{pair≡}
+use denote.Ref.{ptr, now}
 use Rattle.law.specs.Answer.{Answer, value, refused}
-use Rattle.law.specs.Book.{BookYear, Checked, sound, faulty, Next, nextYear, bookEnd, stop, Sought, found, unsound, noYear}
+use Rattle.law.specs.Book.{HeadValues, Checked, sound, faulty, Next, nextYear, bookEnd, stop, Sought, found, unsound, noYear}
 use Rattle.law.proofs.HeldFast.{Seen, Held, by-facts, one, one-said}
 use Rattle.units.proofs.HeldFast.{refusalOf, refusal-back}
-use Rattle.sun.specs.declared.term.TermRecord.{TermRecord}
-use Rattle.sun.proofs.HeldFast.{recordFrom, records-back}
+use Rattle.sun.proofs.HeldFast.{one-records}
+use Rattle.book.specs.declared.read.ReadAnswer.{ReadAnswer}
+use Rattle.book.specs.declared.read.ReadAnswer.the-variants as read-answer
 use Rattle.book.specs.declared.read.ReadYear.{ReadYear}
 use Rattle.book.specs.declared.write.Written.{Written}
 use Rattle.book.specs.declared.write.Written.the-variants as written
@@ -18,12 +20,14 @@ use Rattle.book.specs.declared.year.Next.{Next as NextAnswer}
 use Rattle.book.specs.declared.year.Next.the-variants as next-answer
 use Rattle.book.specs.declared.seek.Sought.{Sought as SoughtAnswer}
 use Rattle.book.specs.declared.seek.Sought.the-variants as sought-answer
-use Rattle.book.specs.Said.{saidChecked, saidNext, saidSought, saidRead, saidWritten}
+use Rattle.book.specs.Said.{saidChecked, saidNext, saidSought, saidReadAnswer, headGiven, saidWritten}
 use Rattle.book.proofs.year.next_at as next-at
 use Rattle.book.proofs.year.check_book as check-book
 use Rattle.book.proofs.seek.seek_year as seek-year
 use Rattle.book.proofs.seek.year_part as year-part
 use Rattle.book.proofs.read.read_year as read-year
+use Rattle.book.proofs.reader.open as reader-open
+use Rattle.book.proofs.reader.next as reader-next
 use Rattle.book.proofs.write.write_year_from as write-year-from
 use Rattle.book.proofs.worked.write_year as write-year
 
@@ -76,24 +80,35 @@ check-book-held M 𝓤 H A mem run κs a z z′ w w′ g g′ = by-facts 𝓤 (�
 pub seek-year-held : Held seek-year.ended (λ M. seek-year.clauses {M = M})
 seek-year-held M 𝓤 H A mem run κs a z z′ w w′ g g′ = by-facts 𝓤 (λ p q. (one-said saidSought soughtFrom sought-back p q, refl))
 
-pub year-part-held : Seen year-part.ended (λ κs. List ℕ) (λ κs r. now r) (λ M. year-part.clauses {M = M})
-year-part-held M 𝓤 H A mem run κs a z z′ w w′ g g′ = by-facts 𝓤 (λ p q. (one p q, refl))
+-- a part of the lent book is seen as its bytes and their place
+pub year-part-held : Seen year-part.ended (λ κs. List ℕ × (ℕ × ℕ)) (λ κs r. (now r, ptr r)) (λ M. year-part.clauses {M = M})
+year-part-held M 𝓤 H A mem run κs a z z′ w w′ g g′ = by-facts 𝓤 (λ p q. (pair≡ (one (p .0) (q .0)) (one (p .1) (q .1)), refl))
 
--- a year read: its answer by the first promise, its values by the second
-abbrev readFrom : Checked → BookYear → ReadYear
-readFrom c v = record { answer = checkedFrom c; n = v .yearN; «day_name» = v .yearName; mansion = v .yearMansion; terms = map recordFrom (v .yearTerms) }
+-- a year read: its answer by the first promise, N, day name and mansion by the second
+abbrev readAnswerFrom : Answer Checked → ReadAnswer
+readAnswerFrom (value (sound e)) = read-answer.Sound e
+readAnswerFrom (value (faulty n at)) = read-answer.Unsound (refusalOf n) at
+readAnswerFrom (refused n) = read-answer.Refused (refusalOf n)
 
-read-back : (r : ReadYear) → readFrom (saidChecked (r .answer)) (saidRead r) ≡ r
+read-answer-back : (r : ReadAnswer) → readAnswerFrom (saidReadAnswer r) ≡ r
+read-answer-back (read-answer.Sound e) = refl
+read-answer-back (read-answer.Unsound r at) = ap (λ f. read-answer.Unsound f at) (refusal-back r)
+read-answer-back (read-answer.Refused r) = ap read-answer.Refused (refusal-back r)
+
+abbrev readFrom : Answer Checked → HeadValues → ReadYear
+readFrom c v = record { answer = readAnswerFrom c; n = v .headN; «day_name» = v .headName; mansion = v .headMansion }
+
+read-back : (r : ReadYear) → readFrom (saidReadAnswer (r .answer)) (headGiven r) ≡ r
 read-back r =
-    ap₂ (λ (a : BookAnswer) (l : List TermRecord). record { answer = a; n = r .n; «day_name» = r .«day_name»; mansion = r .mansion; terms = l })
-    (checked-back (r .answer)) (records-back (r .terms))
+    ap (λ (a : ReadAnswer). record { answer = a; n = r .n; «day_name» = r .«day_name»; mansion = r .mansion }) (read-answer-back (r .answer))
 
-one-read : (z z′ : ReadYear) (c : Checked) (v : BookYear) → (saidChecked (z .answer) ≡ c) × (saidRead z ≡ v)
-    → (saidChecked (z′ .answer) ≡ c) × (saidRead z′ ≡ v) → z ≡ z′
-one-read z z′ c v p q = sym (read-back z) ∙ (ap₂ readFrom (one (p .0) (q .0)) (one (p .1) (q .1)) ∙ read-back z′)
+one-read : (z z′ : ReadYear) {c : Answer Checked} {v : HeadValues} → saidReadAnswer (z .answer) ≡ c → headGiven z ≡ v
+    → saidReadAnswer (z′ .answer) ≡ c → headGiven z′ ≡ v → z ≡ z′
+one-read z z′ p q p′ q′ = sym (read-back z) ∙ (ap₂ readFrom (one p p′) (one q q′) ∙ read-back z′)
 
 pub read-year-held : Held read-year.ended (λ M. read-year.clauses {M = M})
-read-year-held M 𝓤 H A mem run κs a z z′ w w′ g g′ = by-facts 𝓤 (λ p q. (one-read z z′ _ _ p q, refl))
+read-year-held M 𝓤 H A mem run κs a z z′ w w′ g g′ =
+    by-facts 𝓤 (λ p q. (one-read z z′ (p .0) (p .1) (q .0) (q .1), ap (λ l. (tt, (l, tt))) (one-records (p .2) (q .2))))
 
 pub write-year-from-held : Held write-year-from.ended (λ M. write-year-from.clauses {M = M})
 write-year-from-held M 𝓤 H A mem run κs a z z′ w w′ g g′ =
@@ -102,3 +117,17 @@ write-year-from-held M 𝓤 H A mem run κs a z z′ w w′ g g′ =
 pub write-year-held : Held write-year.ended (λ M. write-year.clauses {M = M})
 write-year-held M 𝓤 H A mem run κs a z z′ w w′ g g′ =
     by-facts 𝓤 (λ p q. (one-said saidWritten writtenFrom written-back (p .0) (q .0), ap (λ l. (tt, (l, tt))) (one (p .1) (q .1))))
+
+-- ---- the reader
+
+-- the reader itself, on the same lent slice
+pub open-held : Held reader-open.ended (λ M. reader-open.clauses {M = M})
+open-held M 𝓤 H A mem run κs a z z′ w w′ g g′ = by-facts 𝓤 (λ p q. (one p q, refl))
+
+-- what is found, the part's bytes and their place; and the reader afterwards
+pub next-held : Seen reader-next.ended (λ κs. NextAnswer × (List ℕ × (ℕ × ℕ))) (λ κs h. (h .what, (now (h .part), ptr (h .part)))) (λ M. reader-next.clauses {M = M})
+next-held M 𝓤 H A mem run κs a z z′ w w′ g g′ =
+    by-facts 𝓤 (λ p q. (
+      pair≡ (one-said saidNext nextFrom next-back (p .0) (q .0)) (pair≡ (one (p .1) (q .1)) (one (p .2) (q .2))),
+      pair≡ (one (p .3) (q .3)) refl,
+    ))

@@ -4,6 +4,7 @@ pub mod WhatIsLeft
 pub mod BookSteps
 pub mod Counts
 pub mod Filling
+pub mod HeldRecords
 pub mod ReadValues
 pub mod WriteAnswers
 pub mod WorkedFits
@@ -11,6 +12,9 @@ pub mod WorkedAnswers
 pub mod ThereAndBack
 pub mod BackAndThere
 pub mod WholeBooks
+pub mod HandedParts
 pub mod HeldFast
+pub mod ReaderStays
+pub mod ReaderParts
 pub mod SeekFinds
 pub mod BookAgain

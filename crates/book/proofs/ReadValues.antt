@@ -1,13 +1,15 @@
 -- The values that are read one by one are those of the year at the start of the bytes. Assumes nothing.
 use mathlib.Core.List.{List, _∷_}
 use mathlib.Core.Path.{_≡_, refl, _∙_, ap}
-use Prim.Native.Nat.{ℕ, zero, suc, _+_, _*_, _<_}
+use Prim.Native.Nat.{ℕ, zero, suc, _+_, _*_, _≤_, _<_}
 use native.Mathlib.Omega.{arith}
+use borrow.Author.Tests.{lt-ltb, le-ltb}
 use lib.IntN.{ℤ, pos, _-ℤ_}
 use lib.ListN.{getD, drop}
 use lib.Seq.{drop-drop}
+use Rattle.law.specs.Answer.{value, refused}
 use Rattle.law.specs.Document.{TermValues, inOrder}
-use Rattle.law.specs.Book.{twoAt, headSize, termIn, termsIn, valuesIn}
+use Rattle.law.specs.Book.{Checked, twoAt, headSize, yearFrom, termIn, termsIn, valuesIn, readAnswer}
 use Rattle.law.proofs.Whole.{Is, is-pos, is-minus, same}
 use Rattle.law.proofs.InOrder.{in-order-same}
 use Rattle.book.proofs.WhatIsLeft.{two-drop}
@@ -36,3 +38,14 @@ pub year-read : (b : List ℕ) {N : ℤ} {n name duty : ℕ} {ts : List TermValu
     → record { yearN = N; yearName = name; yearMansion = duty; yearTerms = ts } ≡ valuesIn b
 unfolding valuesIn
 year-read b {n = n} z i p x y q = rw (lowered-is 2_000 n i, p, x, y, q, z, terms-in-order 24 5 b)
+
+-- ---- for a list of so many records
+
+module _ (b : List ℕ) (room : ℕ) where
+  pub read-6 : room < 24 → readAnswer b room ≡ refused 6
+  unfolding readAnswer
+  read-6 h = rw (lt-ltb room 24 h) refl
+
+  pub read-as : 24 ≤ room → {c : Checked} → yearFrom 0 0 b ≡ c → readAnswer b room ≡ value c
+  unfolding readAnswer
+  read-as h e = rw (le-ltb room 24 h) (ap value e)

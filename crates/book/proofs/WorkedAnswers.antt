@@ -3,6 +3,7 @@ use mathlib.Core.Bool.{true, false}
 use mathlib.Core.List.{List}
 use mathlib.Core.Path.{_≡_, sym, _∙_, ap}
 use Prim.Native.Nat.{ℕ, _≤_, _<_}
+use native.Mathlib.Omega.{arith}
 use borrow.Author.Tests.{lt-ltb, le-ltb}
 use lib.IntN.{ℤ}
 use lib.ListN.{length, drop}
@@ -10,6 +11,7 @@ use Rattle.law.specs.Answer.{value, refused}
 use Rattle.law.specs.Document.{epicycles, badYear, dayName, mansion, YearValues, yearAnswer, TermValues, termValues, inOrder, offBelow, termsAnswer}
 use Rattle.law.specs.Book.{bytesOf, workedYear, workedAnswer, writeAnswer}
 use Rattle.law.proofs.Answers.{passed, stopped}
+use Rattle.law.proofs.InOrder.{in-order-length}
 use Rattle.book.proofs.WriteAnswers.{write-done}
 use Rattle.book.proofs.WorkedFits.{worked-fits}
 
@@ -57,7 +59,8 @@ module _ (e : ℕ) (N : ℤ) (b : List ℕ) where
       unfolding workedAnswer workedYear
       worked-written o q =
           let w : workedAnswer e N b ≡ value (bytesOf (workedYear e N) (drop 149 b)) = rw (h, le-ltb (length b) 149 l, q) in
-          w ∙ sym (write-done (workedYear e N) b h l (worked-fits e o N h))
+          let all : 24 ≤ length (inOrder (termValues e N) 24) = omega (arith, in-order-length (termValues e N) 24) in
+          w ∙ sym (write-done (workedYear e N) b h all l (worked-fits e o N h))
 
 pub worked-values : (e : ℕ) (N : ℤ) {x y : ℕ} {ts : List TermValues} → x ≡ dayName N → y ≡ mansion N → ts ≡ inOrder (termValues e N) 24
     → record { yearN = N; yearName = x; yearMansion = y; yearTerms = ts } ≡ workedYear e N

@@ -6,9 +6,9 @@ use Prim.Native.Nat.{ℕ, _≤_, _<_}
 use borrow.Author.Tests.{lt-ltb, le-ltb}
 use lib.ListN.{length, take, drop}
 use lib.Seq.{drop-drop}
-use Rattle.law.specs.Answer.{Answer, value, refused}
+use Rattle.law.specs.Answer.{Answer, value, refused, done, afterwards}
 use Rattle.law.specs.Document.{badYear}
-use Rattle.law.specs.Book.{BookYear, twoOf, termsOf, bytesOf, yearCount, anyBad, badValues, writeAnswer, done, afterwards}
+use Rattle.law.specs.Book.{BookYear, twoOf, termsOf, bytesOf, yearCount, anyBad, badValues, writeAnswer}
 
 -- an answer tells what is said of it, and what the buffer holds
 pub record Told (b c : List ℕ) (said : Answer Unit) (answer : Answer (List ℕ)) : Type 0 where
@@ -40,18 +40,23 @@ module _ (v : BookYear) where
     write-1 e = rw e
 
     module _ (e : badYear (v .yearN) ≡ false) where
-      pub write-6 : length b < 149 → writeAnswer v b ≡ refused 6
+      pub list-6 : length (v .yearTerms) < 24 → writeAnswer v b ≡ refused 6
       unfolding writeAnswer
-      write-6 h = rw (e, lt-ltb (length b) 149 h)
+      list-6 h = rw (e, lt-ltb (length (v .yearTerms)) 24 h)
 
-      module _ (h : 149 ≤ length b) where
-        pub write-9 : badValues v ≡ true → writeAnswer v b ≡ refused 9
+      module _ (g : 24 ≤ length (v .yearTerms)) where
+        pub buffer-6 : length b < 149 → writeAnswer v b ≡ refused 6
         unfolding writeAnswer
-        write-9 f = rw (e, le-ltb (length b) 149 h, f)
+        buffer-6 h = rw (e, le-ltb (length (v .yearTerms)) 24 g, lt-ltb (length b) 149 h)
 
-        pub write-done : badValues v ≡ false → writeAnswer v b ≡ value (bytesOf v (drop 149 b))
-        unfolding writeAnswer
-        write-done f = rw (e, le-ltb (length b) 149 h, f)
+        module _ (h : 149 ≤ length b) where
+          pub write-9 : badValues v ≡ true → writeAnswer v b ≡ refused 9
+          unfolding writeAnswer
+          write-9 f = rw (e, le-ltb (length (v .yearTerms)) 24 g, le-ltb (length b) 149 h, f)
+
+          pub write-done : badValues v ≡ false → writeAnswer v b ≡ value (bytesOf v (drop 149 b))
+          unfolding writeAnswer
+          write-done f = rw (e, le-ltb (length (v .yearTerms)) 24 g, le-ltb (length b) 149 h, f)
 
   -- the head, and then the terms after it
   pub put-year : (b c d : List ℕ) {n : ℕ} → n ≡ yearCount (v .yearN) → c ≡ 1 ∷ twoOf n (v .yearName ∷ v .yearMansion ∷ drop 5 b)

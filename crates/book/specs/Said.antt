@@ -1,13 +1,18 @@
 -- What this crate's answers say, in document 01's numbers. Assumes nothing.
 use mathlib.Core.List.{List, map}
 use Prim.Native.Nat.{ℕ}
-use lib.IntN.{ℤ}
+use lib.IntN.{ℤ, pos}
+use lib.ListN.{replicate}
 use Rattle.law.specs.Answer.{Answer, value, refused}
-use Rattle.law.specs.Book.{Checked, sound, faulty, Next, nextYear, bookEnd, stop, Sought, found, unsound, noYear, BookYear}
+use Rattle.law.specs.Book.{Checked, sound, faulty, Next, nextYear, bookEnd, stop, Sought, found, unsound, noYear, BookYear, HeadValues}
 use Rattle.units.specs.Said.{numberOf}
 use Rattle.sun.specs.declared.term.TermRecord.{TermRecord}
 use Rattle.sun.specs.Said.{valuesOf}
+use Rattle.sun.specs.Records.{blank}
+use Rattle.book.specs.declared.read.ReadAnswer.{ReadAnswer}
+use Rattle.book.specs.declared.read.ReadAnswer.the-variants as read-answer
 use Rattle.book.specs.declared.read.ReadYear.{ReadYear}
+use Rattle.book.specs.declared.read.FoundYear.{FoundYear}
 use Rattle.book.specs.declared.write.Written.{Written}
 use Rattle.book.specs.declared.write.Written.the-variants as written
 use Rattle.book.specs.declared.record.RecordAnswer.{RecordAnswer}
@@ -41,8 +46,25 @@ saidSought (sought-answer.Refused r) = noYear (numberOf r)
 abbrev pub givenYear : ℤ → ℕ → ℕ → List TermRecord → BookYear
 givenYear n name mansion terms = record { yearN = n; yearName = name; yearMansion = mansion; yearTerms = map valuesOf terms }
 
-abbrev pub saidRead : ReadYear → BookYear
-saidRead year = givenYear (year .n) (year .«day_name») (year .mansion) (year .terms)
+-- ---- a year read
+
+abbrev pub saidReadAnswer : ReadAnswer → Answer Checked
+saidReadAnswer (read-answer.Sound end) = value (sound end)
+saidReadAnswer (read-answer.Unsound r byte) = value (faulty (numberOf r) byte)
+saidReadAnswer (read-answer.Refused r) = refused (numberOf r)
+
+abbrev pub headGiven : ReadYear → HeadValues
+headGiven year = record { headN = year .n; headName = year .«day_name»; headMansion = year .mansion }
+
+-- nothing is read, and no record is to be stored
+abbrev pub unread : ReadAnswer → FoundYear
+unread answer =
+    record {
+      year = record { answer = answer; n = pos 0; «day_name» = 0; mansion = 0 };
+      records = record { count = 0; at = replicate 24 blank };
+    }
+
+-- ---- a year written
 
 abbrev pub saidWritten : Written → Answer Unit
 saidWritten written.Done = value tt

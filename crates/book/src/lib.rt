@@ -2,14 +2,20 @@
 // and its values. Inside, N is counted from -2,000 and a day from -4, as the book does. No public function has a `requires`.
 mod bytes;
 mod read;
+mod reader;
 mod record;
 mod seek;
 mod worked;
 mod write;
 mod year;
 
+pub use read::ReadAnswer;
 pub use read::ReadYear;
 pub use read::read_year;
+pub use reader::Handed;
+pub use reader::Reader;
+pub use reader::next;
+pub use reader::open;
 pub use seek::Sought;
 pub use seek::seek_year;
 pub use seek::year_part;

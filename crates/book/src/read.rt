@@ -1,25 +1,41 @@
-// The year at the start of lent bytes, as values.
+// The year at the start of lent bytes, into values and the first 24 records of a list.
 use crate::bytes::two_at;
 use crate::bytes::wide;
 use crate::year::BookAnswer;
 use crate::year::year_at;
+use sun::Records;
 use sun::TermRecord;
+use sun::store_records;
+use units::Refusal;
 ghost use mathlib.Core.List.{map};
 ghost use mathlib.Core.Path.{_≡_};
 ghost use Prim.Native.Nat.{_+_, _*_, _≤_};
 ghost use lib.ListN.{length, drop};
-ghost use Rattle.law.specs.Document.{inOrder};
-ghost use Rattle.law.specs.Book.{termIn, yearFrom, heldYear};
+ghost use Rattle.law.specs.Document.{inOrder, filled};
+ghost use Rattle.law.specs.Book.{termIn, readAnswer, headRead, termsRead};
 ghost use Rattle.sun.specs.Said.{valuesOf};
-ghost use Rattle.book.specs.Said.{saidChecked, saidRead};
+ghost use Rattle.sun.specs.Records.{keeps};
+ghost use Rattle.book.specs.Said.{saidReadAnswer, headGiven, unread};
 
-// What stands at the start of some bytes: N, day name, mansion and 24 records, each count 0. On a refusal all are 0.
+// The byte after the year; or the book's refusal, and the byte where the record at fault starts; or a refusal with no byte.
+pub enum ReadAnswer {
+    Sound(usize),
+    Unsound(Refusal, usize),
+    Refused(Refusal),
+}
+
+// The answer, and N, day name and mansion: 0 on a refusal.
 pub struct ReadYear {
-    pub answer: BookAnswer,
+    pub answer: ReadAnswer,
     pub n: i64,
     pub day_name: u64,
     pub mansion: u64,
-    pub terms: [TermRecord; 24],
+}
+
+// A year read, and the records to be stored: none on a refusal.
+struct FoundYear {
+    year: ReadYear,
+    records: Records,
 }
 
 const BLANK: TermRecord = TermRecord {
@@ -54,24 +70,54 @@ fn terms_at(bytes: &[u8]) -> [TermRecord; 24]
     terms
 }
 
-// The year at the start of lent bytes; what follows it is not looked at.
-pub fn read_year(bytes: &[u8]) -> ReadYear
-    ensures { λ r. ⌜ (saidChecked (r .answer) ≡ yearFrom 0 0 (now (bytes .entry))) × (saidRead r ≡ heldYear (yearFrom 0 0 (now (bytes .entry))) (now (bytes .entry))) ⌝ }
+// A refusal: all are 0.
+fn unread_for(answer: ReadAnswer) -> FoundYear
+    ensures { λ r. ⌜ r ≡ unread answer ⌝ }
 {
-    match year_at(bytes, 0, 0) {
-        BookAnswer::Sound(end) => ReadYear {
-            answer: BookAnswer::Sound(end),
-            n: (two_at(bytes, 1) as i64) - 2_000,
-            day_name: wide(bytes[3]),
-            mansion: wide(bytes[4]),
-            terms: terms_at(bytes),
-        },
-        BookAnswer::Refused(refusal, byte) => ReadYear {
-            answer: BookAnswer::Refused(refusal, byte),
-            n: 0,
-            day_name: 0,
-            mansion: 0,
-            terms: [BLANK; 24],
-        },
+    let year = ReadYear {
+        answer,
+        n: 0,
+        day_name: 0,
+        mansion: 0,
+    };
+    let records = Records {
+        count: 0,
+        at: [BLANK; 24],
+    };
+    FoundYear { year, records }
+}
+
+// The year at the start of lent bytes, for a list of so many records; what follows it is not looked at.
+fn read_for(bytes: &[u8], room: usize) -> FoundYear
+    ensures { λ r. ⌜ (saidReadAnswer (r .year .answer) ≡ readAnswer (now (bytes .entry)) room) × (headGiven (r .year) ≡ headRead (readAnswer (now (bytes .entry)) room) (now (bytes .entry))) × keeps (r .records) (termsRead (readAnswer (now (bytes .entry)) room) (now (bytes .entry))) × (r .records .count ≤ room) ⌝ }
+{
+    if room < 24 {
+        return unread_for(ReadAnswer::Refused(Refusal::TooShort));
     }
+    match year_at(bytes, 0, 0) {
+        BookAnswer::Sound(end) => {
+            let year = ReadYear {
+                answer: ReadAnswer::Sound(end),
+                n: (two_at(bytes, 1) as i64) - 2_000,
+                day_name: wide(bytes[3]),
+                mansion: wide(bytes[4]),
+            };
+            let records = Records {
+                count: 24,
+                at: terms_at(bytes),
+            };
+            FoundYear { year, records }
+        }
+        BookAnswer::Refused(refusal, byte) => unread_for(ReadAnswer::Unsound(refusal, byte)),
+    }
+}
+
+// Reads the year at the start of lent bytes, its terms into the first 24 records of a list, each count 0; what follows it is not
+// looked at. On a refusal the list stays as it was.
+pub fn read_year(bytes: &[u8], list: &mut [TermRecord]) -> ReadYear
+    ensures { λ r. ⌜ (saidReadAnswer (r .answer) ≡ readAnswer (now (bytes .entry)) (length (now (list .entry)))) × (headGiven r ≡ headRead (readAnswer (now (bytes .entry)) (length (now (list .entry)))) (now (bytes .entry))) × (map valuesOf (now (list .exit)) ≡ filled (termsRead (readAnswer (now (bytes .entry)) (length (now (list .entry)))) (now (bytes .entry))) (map valuesOf (now (list .entry)))) ⌝ }
+{
+    let found = read_for(bytes, list.len());
+    store_records(list, found.records);
+    found.year
 }

@@ -7,8 +7,10 @@ use units::Number;
 use units::Refusal;
 ghost use mathlib.Core.Path.{_≡_};
 ghost use Prim.Native.Nat.{_≤_};
-ghost use Rattle.law.specs.Book.{bookOf, seekIn, ifSound, seekOf, partOf};
+ghost use denote.Ref.{ptr};
+ghost use Rattle.law.specs.Book.{bookOf, seekIn, ifSound, seekOf, partOf, partStart};
 ghost use Rattle.book.specs.Said.{saidSought};
+ghost use Rattle.book.specs.Reader.{placeIn};
 
 // Where the year's part starts and ends; or the book's refusal and its byte; or refusal 1 or 12.
 pub enum Sought {
@@ -58,7 +60,7 @@ pub fn seek_year(book: &[u8], n: i64) -> Sought
 
 // The year's part of the lent book, empty where no year is handed out.
 pub fn year_part(book: &[u8], n: i64) -> &[u8]
-    ensures { λ r. ⌜ now r ≡ partOf (now (book .entry)) (seekOf (now (book .entry)) n) ⌝ }
+    ensures { λ r. ⌜ (now r ≡ partOf (now (book .entry)) (seekOf (now (book .entry)) n)) × (ptr r ≡ placeIn (book .entry) (partStart (seekOf (now (book .entry)) n))) ⌝ }
 {
     match seek_year(book, n) {
         Sought::Found(start, end) => &book[start..end],

@@ -1,12 +1,14 @@
 // The writer: works out one year and fills the first 149 bytes of a lent buffer.
 use crate::write::Written;
-use crate::write::write_year_from;
+use crate::write::write_records;
 use sun::Listed;
+use sun::Records;
 use sun::YearAnswer;
 use units::Refusal;
 ghost use mathlib.Core.Path.{_≡_};
+ghost use Rattle.law.specs.Answer.{done, afterwards};
 ghost use Rattle.law.specs.Document.{epicycles};
-ghost use Rattle.law.specs.Book.{workedAnswer, done, afterwards};
+ghost use Rattle.law.specs.Book.{workedAnswer};
 ghost use Rattle.book.specs.Said.{saidWritten};
 
 // Nothing is written on a refusal.
@@ -30,5 +32,6 @@ pub fn write_year(n: i64, buf: &mut [u8]) -> Written
     let day_name = year.day_name;
     let mansion = year.mansion;
     let at = terms.at;
-    write_year_from(n, day_name, mansion, at, buf)
+    let records = Records { count: 24, at };
+    write_records(n, day_name, mansion, records, buf)
 }

@@ -1,5 +1,7 @@
 // A year's values into the first 149 bytes of a lent buffer; the later bytes stay.
+use sun::Records;
 use sun::TermRecord;
+use sun::first_records;
 use units::Number;
 use units::Refusal;
 ghost use mathlib.Core.Bool.{false};
@@ -7,9 +9,11 @@ ghost use mathlib.Core.List.{_∷_, _++_, map};
 ghost use mathlib.Core.Path.{_≡_};
 ghost use Prim.Native.Nat.{_+_, _≤_, _<_};
 ghost use lib.ListN.{length, take, drop};
+ghost use Rattle.law.specs.Answer.{done, afterwards};
 ghost use Rattle.law.specs.Document.{badDay};
-ghost use Rattle.law.specs.Book.{twoOf, termsOf, dayCount, badTermValues, anyBad, writeAnswer, done, afterwards};
+ghost use Rattle.law.specs.Book.{twoOf, termsOf, dayCount, badTermValues, anyBad, writeAnswer};
 ghost use Rattle.sun.specs.Said.{valuesOf};
+ghost use Rattle.sun.specs.Records.{held};
 ghost use Rattle.book.specs.Said.{saidWritten, givenYear};
 
 pub enum Written {
@@ -85,19 +89,22 @@ fn put_terms(buf: &mut [u8], terms: [TermRecord; 24])
     }
 }
 
-// Writes a year from its values, heeding no count. Nothing is written on a refusal.
-pub fn write_year_from(
+// A year from its values and the records that are meant, heeding no count. Nothing is written on a refusal.
+pub(crate) fn write_records(
     n: i64,
     day_name: u64,
     mansion: u64,
-    terms: [TermRecord; 24],
+    records: Records,
     buf: &mut [u8],
 ) -> Written
-    ensures { λ r. ⌜ (saidWritten r ≡ done (writeAnswer (givenYear n «day_name» mansion terms) (now (buf .entry)))) × (now (buf .exit) ≡ afterwards (now (buf .entry)) (writeAnswer (givenYear n «day_name» mansion terms) (now (buf .entry)))) ⌝ }
+    ensures { λ r. ⌜ (saidWritten r ≡ done (writeAnswer (givenYear n «day_name» mansion (held records)) (now (buf .entry)))) × (now (buf .exit) ≡ afterwards (now (buf .entry)) (writeAnswer (givenYear n «day_name» mansion (held records)) (now (buf .entry)))) ⌝ }
 {
     let Number::Is(number) = units::year_index(n) else {
         return Written::Refused(Refusal::YearOutside);
     };
+    if records.count < 24 {
+        return Written::Refused(Refusal::TooShort);
+    }
     if buf.len() < 149 {
         return Written::Refused(Refusal::TooShort);
     }
@@ -107,10 +114,25 @@ pub fn write_year_from(
     if 27 < mansion {
         return Written::Refused(Refusal::FieldOutside);
     }
+    let terms = records.at;
     if any_bad(terms) {
         return Written::Refused(Refusal::FieldOutside);
     }
     put_head(buf, number, day_name, mansion);
     put_terms(buf, terms);
     Written::Done
+}
+
+// Writes a year from its values and the first 24 records of a list, heeding no count. Nothing is written on a refusal.
+pub fn write_year_from(
+    n: i64,
+    day_name: u64,
+    mansion: u64,
+    list: &[TermRecord],
+    buf: &mut [u8],
+) -> Written
+    ensures { λ r. ⌜ (saidWritten r ≡ done (writeAnswer (givenYear n «day_name» mansion (take 24 (now (list .entry)))) (now (buf .entry)))) × (now (buf .exit) ≡ afterwards (now (buf .entry)) (writeAnswer (givenYear n «day_name» mansion (take 24 (now (list .entry)))) (now (buf .entry)))) ⌝ }
+{
+    let records = first_records(list);
+    write_records(n, day_name, mansion, records, buf)
 }

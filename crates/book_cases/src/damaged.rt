@@ -1,15 +1,14 @@
-// Of each damaged book: what checking it, seeking the year 0 in it and reading its first year answer.
+// Of each damaged book: what checking it, seeking the year 0 in it, reading its first year and a reader's calls answer.
 use crate::bytes::byte_at;
 use crate::bytes::two_at;
+use crate::lists;
 use crate::print::number;
 use crate::print::refused;
 use crate::print::refused_at;
-use crate::print::signed;
 use crate::print::text;
+use crate::readers;
 use book::BookAnswer;
-use book::ReadYear;
 use book::Sought;
-use sun::TermRecord;
 ghost use Prim.Native.Nat.{_≤_};
 
 // The years -676, 0 and 321, and zeros after them.
@@ -47,32 +46,24 @@ fn sought(bytes: &[u8]) {
     }
 }
 
-fn moment(term: TermRecord) {
-    text(b" ");
-    signed(term.day);
-    text(b":");
-    number(term.minute);
+fn room(bytes: &[u8], room: usize)
+    requires { ⌜ room ≤ 26 ⌝ }
+{
+    text(b"room ");
+    number(room as u64);
+    text(b": ");
+    lists::read_into(bytes, room);
+    text(b"\n");
 }
 
-fn values(year: ReadYear) {
-    signed(year.n);
-    text(b" ");
-    number(year.day_name);
-    text(b" ");
-    number(year.mansion);
-    let terms = year.terms;
-    moment(terms[0]);
-    moment(terms[11]);
-    moment(terms[23]);
-}
-
-fn first(bytes: &[u8]) {
-    let year = book::read_year(bytes);
-    let answer = year.answer;
-    match answer {
-        BookAnswer::Sound(_) => values(year),
-        BookAnswer::Refused(refusal, byte) => refused_at(refusal, byte),
-    }
+// The base book's first year, and no bytes, read into lists of several lengths.
+fn rooms(bytes: &[u8]) {
+    room(bytes, 0);
+    room(bytes, 23);
+    room(bytes, 24);
+    room(bytes, 26);
+    room(&bytes[..0], 23);
+    room(&bytes[..0], 24);
 }
 
 fn line(bytes: &[u8]) {
@@ -80,7 +71,9 @@ fn line(bytes: &[u8]) {
     text(b" | ");
     sought(bytes);
     text(b" | ");
-    first(bytes);
+    lists::read_into(bytes, 25);
+    text(b" | ");
+    readers::calls(bytes);
     text(b"\n");
 }
 
@@ -122,6 +115,7 @@ fn case(input: &[u8], at: usize, base: [u8; 600]) -> usize
 
 pub(crate) fn lines(input: &[u8]) {
     let base = base_book();
+    rooms(&base);
     let mut at = 0;
     for turn in 0..10_000u64 {
         if 131_072 < at {

@@ -3,7 +3,9 @@
 // and byte. tests/expected.py makes stdin and stdout.
 mod bytes;
 mod damaged;
+mod lists;
 mod print;
+mod readers;
 mod written;
 
 use libc::STDIN_FILENO;

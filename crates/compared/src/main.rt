@@ -3,6 +3,7 @@
 mod each;
 mod entries;
 mod equations;
+mod lists;
 mod local_times;
 mod places;
 mod print;
@@ -15,5 +16,6 @@ fn main() {
     equations::lines();
     places::lines();
     terms::lines();
+    lists::lines();
     local_times::lines();
 }

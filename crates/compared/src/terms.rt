@@ -1,4 +1,4 @@
-// The 24 terms of every twentieth year, one by one and as a year's list; and their refusals.
+// The 24 terms of every twentieth year, one by one, and their refusals.
 use crate::each::Line;
 use crate::each::each;
 use crate::print::less;
@@ -6,7 +6,6 @@ use crate::print::number;
 use crate::print::refused;
 use crate::print::signed;
 use crate::print::text;
-use sun::Listed;
 use sun::TermAnswer;
 use sun::TermRecord;
 ghost use Prim.Native.Nat.{_≤_};
@@ -19,7 +18,7 @@ fn head(n: i64, k: u64) {
     text(b": ");
 }
 
-fn values(term: TermRecord) {
+pub(crate) fn values(term: TermRecord) {
     text(b"day ");
     signed(term.day);
     text(b" minute ");
@@ -47,30 +46,6 @@ pub(crate) fn of_twentieth(i: u64)
     line(less(20 * (i / 24), 2_000), i % 24);
 }
 
-fn records(n: i64, at: [TermRecord; 24]) {
-    for k in 0..24usize {
-        head(n, k as u64);
-        values(at[k]);
-    }
-}
-
-// The year's list: its refusal where there is one, then all its records.
-fn list(n: i64) {
-    let terms = sun::terms_of(n);
-    let answer = terms.answer;
-    match answer {
-        Listed::All => text(b"list "),
-        Listed::Refused(refusal) => {
-            refused(refusal);
-            text(b" list ");
-        }
-    }
-    signed(n);
-    text(b"\n");
-    let at = terms.at;
-    records(n, at);
-}
-
 pub(crate) fn lines() {
     each(Line::Term, 0, 24 * 201);
     line(-2_001, 0);
@@ -83,10 +58,4 @@ pub(crate) fn lines() {
     line(2_000, 24);
     line(-9_223_372_036_854_775_808, 0);
     line(9_223_372_036_854_775_807, 24);
-    list(-2_001);
-    list(-2_000);
-    list(-1_337);
-    list(0);
-    list(2_000);
-    list(2_001);
 }

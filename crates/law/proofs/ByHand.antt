@@ -1,7 +1,7 @@
 -- What the proofs made by hand share: the functions that take a list of records or a reader, which the borrow checker does not cover.
 --     answered     a callee has returned: some result r, what its `ensures` says of r, r's machine value, and the tokens back
 --     plainly      an `ensures` that speaks of no lent list afterwards is its fact
---     Upto, Nearer a loop's counter, from 0 to n
+--     Upto, Nearer a loop's counter, from 0 to n, and its way to n
 --     more-stored  a list whose first k places are stored anew, and one place more
 -- Assumes `Given`.
 use mathlib.Core.Path.{_≡_, refl, ap}
@@ -53,11 +53,12 @@ plainly 𝓤 H A T κs a φ = exE 𝓤 _ (λ ws. snd∗ 𝓤 (sem 𝓤 H A (last
 abbrev pub Upto : ℕ → Type 0
 Upto n = (k : ℕ) × (k ≤ n)
 
-abbrev pub Nearer : (n : ℕ) → Upto n → Upto n → Type 0
-Nearer n j k = n - j .0 < n - k .0
+-- of two states of a loop that counts to n, the first is nearer to its end; `turns` gives a state's count
+abbrev pub Nearer : {S : Type 0} → (S → ℕ) → ℕ → S → S → Type 0
+Nearer turns n j k = n - turns j < n - turns k
 
-pub nearer-ends : (n : ℕ) → WellFounded (Nearer n)
-nearer-ends n = InvImage·wf (λ (k : Upto n). n - k .0) (Nat·lt-wfRel .wf)
+pub nearer-ends : {S : Type 0} (turns : S → ℕ) (n : ℕ) → WellFounded (Nearer turns n)
+nearer-ends turns n = InvImage·wf (λ k. n - turns k) (Nat·lt-wfRel .wf)
 
 module _ {A : Type 0} where
   one-more : (xs ys : List A) (k : ℕ) (d : A) → k < length xs → k < length ys

@@ -10,3 +10,13 @@ pub data Answer (A : Type 0) : Type 0 where
 abbrev pub refusing : {A : Type 0} → Bool → ℕ → Answer A → Answer A
 refusing true number next = refused number
 refusing false number next = next
+
+-- the answer without its value: done, or refused
+abbrev pub done : {A : Type 0} → Answer A → Answer Unit
+done (value v) = value tt
+done (refused number) = refused number
+
+-- what was lent to be filled, afterwards: nothing is altered by a refusal
+abbrev pub afterwards : {A : Type 0} → A → Answer A → A
+afterwards before (value filled) = filled
+afterwards before (refused number) = before

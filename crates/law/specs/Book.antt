@@ -5,7 +5,7 @@ use mathlib.Core.List.{List, [], _∷_, _++_}
 use Prim.Native.Nat.{ℕ, zero, suc, _+_, _*_, _-_, _/_, _%_}
 use lib.Dec.{leb, ltb, eqb}
 use lib.IntN.{ℤ, pos, natAbs, _+ℤ_, _-ℤ_}
-use lib.ListN.{length, getD, take, drop, replicate}
+use lib.ListN.{length, getD, take, drop}
 use Rattle.law.specs.Answer.{Answer, value, refused, refusing}
 use Rattle.law.specs.Document.{badYear, badDay, badMinute, dayName, mansion, TermValues, termValues, inOrder, offBelow}
 
@@ -121,6 +121,30 @@ stepOf (faulty n at) least = stop n at
 unfoldable pub nextAt : List ℕ → ℕ → ℕ → Next
 nextAt s at least = cond (leb (length s) at) bookEnd (stepOf (yearFrom least at (drop at s)) (leastAfter (drop at s)))
 
+-- as that part of the caller's bytes; where no year is handed out, the part is empty
+abbrev pub handedPart : List ℕ → ℕ → Next → List ℕ
+handedPart s at (nextYear e least) = take (e - at) (drop at s)
+handedPart s at bookEnd = []
+handedPart s at (stop n p) = []
+
+-- the byte where that part starts; an empty part is put at the book's start
+abbrev pub handedStart : ℕ → Next → ℕ
+handedStart at (nextYear e least) = at
+handedStart at bookEnd = 0
+handedStart at (stop n p) = 0
+
+-- the byte to go on from: it then stays at that end or refusal
+abbrev pub byteAfter : ℕ → Next → ℕ
+byteAfter at (nextYear e least) = e
+byteAfter at bookEnd = at
+byteAfter at (stop n p) = at
+
+-- and the least N + 2,000 that may stand there
+abbrev pub leastThen : ℕ → Next → ℕ
+leastThen least (nextYear e after) = after
+leastThen least bookEnd = least
+leastThen least (stop n p) = least
+
 abbrev pub handOut : Next → List ℕ → ℕ → (ℕ → ℕ → List (List ℕ)) → List (List ℕ)
 handOut (nextYear e least) s at more = take (e - at) (drop at s) ∷ more e least
 handOut bookEnd s at more = []
@@ -175,6 +199,12 @@ partOf s (found a e) = take (e - a) (drop a s)
 partOf s (unsound n at) = []
 partOf s (noYear n) = []
 
+-- the byte where that part starts; an empty part is put at the book's start
+abbrev pub partStart : Sought → ℕ
+partStart (found a e) = a
+partStart (unsound n at) = 0
+partStart (noYear n) = 0
+
 -- ======== Between bytes and values
 
 -- N, day name, mansion and the terms
@@ -219,19 +249,30 @@ valuesIn b =
       yearTerms = termsIn 24 (drop (headSize b) b);
     }
 
--- what is handed out on a refusal: 0 everywhere
-abbrev pub blankYear : BookYear
-blankYear =
-    record {
-      yearN = pos 0;
-      yearName = 0;
-      yearMansion = 0;
-      yearTerms = replicate 24 (record { dayOfTerm = pos 0; minuteOfTerm = 0; midnights = 0 });
-    }
+-- a year is read into a list of so many records: 6 for the list, then as the book does
+unfoldable pub readAnswer : List ℕ → ℕ → Answer Checked
+readAnswer b room = refusing (ltb room 24) 6 (value (yearFrom 0 0 b))
 
-abbrev pub heldYear : Checked → List ℕ → BookYear
-heldYear (sound e) b = valuesIn b
-heldYear (faulty n at) b = blankYear
+-- N, day name and mansion
+pub record HeadValues : Type 0 where
+  pub headN : ℤ
+  pub headName : ℕ
+  pub headMansion : ℕ
+
+abbrev pub headOf : BookYear → HeadValues
+headOf v = record { headN = v .yearN; headName = v .yearName; headMansion = v .yearMansion }
+
+-- they are 0 on a refusal
+abbrev pub headRead : Answer Checked → List ℕ → HeadValues
+headRead (value (sound e)) b = headOf (valuesIn b)
+headRead (value (faulty n at)) b = record { headN = pos 0; headName = 0; headMansion = 0 }
+headRead (refused n) b = record { headN = pos 0; headName = 0; headMansion = 0 }
+
+-- the records that the list is filled with
+abbrev pub termsRead : Answer Checked → List ℕ → Answer (List TermValues)
+termsRead (value (sound e)) b = value (valuesIn b .yearTerms)
+termsRead (value (faulty n at)) b = refused n
+termsRead (refused n) b = refused n
 
 -- ======== Writing
 
@@ -247,11 +288,13 @@ anyBad (t ∷ ts) = badTermValues t || anyBad ts
 unfoldable pub badValues : BookYear → Bool
 badValues v = ltb 59 (v .yearName) || (ltb 27 (v .yearMansion) || anyBad (v .yearTerms))
 
--- what the buffer b comes to hold, its first 149 bytes filled and the later ones staying: refuses 1, then 6, then 9
+-- what the buffer b comes to hold, its first 149 bytes filled and the later ones staying; the terms are the first 24 records of a
+-- list. Refuses 1, then 6 for list or buffer, then 9
 unfoldable pub writeAnswer : BookYear → List ℕ → Answer (List ℕ)
 writeAnswer v b =
     refusing (badYear (v .yearN)) 1
-    (refusing (ltb (length b) 149) 6 (refusing (badValues v) 9 (value (bytesOf v (drop 149 b)))))
+    (refusing (ltb (length (v .yearTerms)) 24 || ltb (length b) 149) 6
+    (refusing (badValues v) 9 (value (bytesOf v (drop 149 b)))))
 
 -- the writer works out one year
 unfoldable pub workedYear : ℕ → ℤ → BookYear
@@ -263,13 +306,3 @@ unfoldable pub workedAnswer : ℕ → ℤ → List ℕ → Answer (List ℕ)
 workedAnswer e N b =
     refusing (badYear N) 1
     (refusing (ltb (length b) 149) 6 (refusing (offBelow e N 24) 5 (value (bytesOf (workedYear e N) (drop 149 b)))))
-
--- the answer without the bytes
-abbrev pub done : Answer (List ℕ) → Answer Unit
-done (value filled) = value tt
-done (refused n) = refused n
-
--- the buffer afterwards: nothing is written on a refusal
-abbrev pub afterwards : List ℕ → Answer (List ℕ) → List ℕ
-afterwards b (value filled) = filled
-afterwards b (refused n) = b

@@ -2,14 +2,15 @@
 -- N is the years elapsed from 1684 and d a day, signed. An angle is in whole units, and a place may be below 0 or past the circle.
 -- Assumes nothing.
 use mathlib.Core.Bool.{Bool, false, cond, _||_}
-use mathlib.Core.List.{List, [], _∷_}
+use mathlib.Core.List.{List, [], _∷_, _++_}
 use Prim.Native.Nat.{ℕ, zero, suc, _+_, _*_, _-_, _/_, _%_}
 use lib.Dec.{leb, ltb}
 use lib.IntN.{ℤ, pos, negℤ, natAbs, _+ℤ_, _-ℤ_, _*ℤ_}
+use lib.ListN.{drop}
 use lib.Signed.{ltZ}
 use Rattle.law.specs.Entry.{lastTangent, sineEntry, tangentEntry}
 use Rattle.law.specs.Round.{halfUp, halfUpOnSize, floorDiv, floorMod}
-use Rattle.law.specs.Answer.{Answer, value, refusing}
+use Rattle.law.specs.Answer.{Answer, value, refused, refusing}
 
 -- ======== Units and constants
 
@@ -324,6 +325,15 @@ offBelow e N (suc k) = offTerm e N k || offBelow e N k
 -- a year's terms 0 to 23: 1, 5
 unfoldable pub termsAnswer : ℕ → ℤ → Answer (List TermValues)
 termsAnswer e N = refusing (badYear N) 1 (refusing (offBelow e N 24) 5 (value (inOrder (termValues e N) 24)))
+
+-- the same for a lent list of so many records: 1, 6, 5
+unfoldable pub fillAnswer : ℕ → ℤ → ℕ → Answer (List TermValues)
+fillAnswer e N room = refusing (badYear N) 1 (refusing (ltb room 24) 6 (termsAnswer e N))
+
+-- a year call fills a lent list of 24 records; a longer list keeps its later records, and a refusal alters none
+abbrev pub filled : Answer (List TermValues) → List TermValues → List TermValues
+filled (value terms) list = terms ++ drop 24 list
+filled (refused number) list = list
 
 -- day and minute at a place
 pub record LocalValues : Type 0 where

@@ -15,6 +15,7 @@ use Rattle.sun.specs.declared.term.Listed.{Listed}
 use Rattle.sun.specs.declared.term.Listed.the-variants as listed
 use Rattle.sun.specs.declared.term.YearTerms.{YearTerms}
 use Rattle.sun.specs.Said.{saidYear, valuesOf, saidTerm, saidListed, termsListed, saidTerms, heldTerms}
+use Rattle.sun.specs.Records.{saidDone}
 use Rattle.sun.proofs.year.year_of as year-of
 use Rattle.sun.proofs.equation.equation_at as equation-at
 use Rattle.sun.proofs.place.mean_place as mean-place
@@ -22,6 +23,9 @@ use Rattle.sun.proofs.place.true_place as true-place
 use Rattle.sun.proofs.place.run_on_place as run-on-place
 use Rattle.sun.proofs.term.term_of as term-of
 use Rattle.sun.proofs.term.terms_of as terms-of
+use Rattle.sun.proofs.records.store_records as store-records
+use Rattle.sun.proofs.records.first_records as first-records
+use Rattle.sun.proofs.records.fill_terms as fill-terms
 
 -- ---- the readings of answers can be taken back
 
@@ -88,3 +92,25 @@ one-list z z′ s p q =
 
 pub terms-of-held : Held terms-of.ended (λ M. terms-of.clauses {M = M})
 terms-of-held M 𝓤 H A mem run κs a z z′ w w′ g g′ = by-facts 𝓤 (λ p q. (one-list z z′ (termsAnswer epicycles (a .0)) p q, refl))
+
+-- a lent list afterwards, as its records are read
+pub one-records : {s : List TermValues} {l l′ : List TermRecord} → map valuesOf l ≡ s → map valuesOf l′ ≡ s → l ≡ l′
+one-records p q = one-said (map valuesOf) (map recordFrom) records-back p q
+
+abbrev doneFrom : Answer Unit → Listed
+doneFrom (value u) = listed.All
+doneFrom (refused k) = listed.Refused (refusalOf k)
+
+done-back : (r : Listed) → doneFrom (saidDone r) ≡ r
+done-back listed.All = refl
+done-back (listed.Refused r) = ap listed.Refused (refusal-back r)
+
+pub store-records-held : Held store-records.ended (λ M. store-records.clauses {M = M})
+store-records-held M 𝓤 H A mem run κs a z z′ w w′ g g′ = by-facts 𝓤 (λ p q. (refl, ap (λ l. (l, (tt, tt))) (one p q)))
+
+pub first-records-held : Held first-records.ended (λ M. first-records.clauses {M = M})
+first-records-held M 𝓤 H A mem run κs a z z′ w w′ g g′ = by-facts 𝓤 (λ p q. (one p q, refl))
+
+pub fill-terms-held : Held fill-terms.ended (λ M. fill-terms.clauses {M = M})
+fill-terms-held M 𝓤 H A mem run κs a z z′ w w′ g g′ =
+    by-facts 𝓤 (λ p q. (one-said saidDone doneFrom done-back (p .0) (q .0), ap (λ l. (l, (tt, tt))) (one-records (p .1) (q .1))))

@@ -1,2 +1,4 @@
 pub mod HeldFast
 pub mod Midnights
+pub mod Filling
+pub mod LentList

@@ -3,6 +3,7 @@
 mod constants;
 mod equation;
 mod place;
+mod records;
 mod term;
 mod year;
 
@@ -10,6 +11,10 @@ pub use equation::equation_at;
 pub use place::mean_place;
 pub use place::run_on_place;
 pub use place::true_place;
+pub use records::Records;
+pub use records::fill_terms;
+pub use records::first_records;
+pub use records::store_records;
 pub use term::Listed;
 pub use term::TermAnswer;
 pub use term::TermRecord;

@@ -99,13 +99,13 @@ pub struct YearTerms {
     pub at: [TermRecord; 24],
 }
 
-const BLANK: TermRecord = TermRecord {
+pub(crate) const BLANK: TermRecord = TermRecord {
     day: 0,
     minute: 0,
     count: 0,
 };
 
-fn terms_in(y: u64, root: u64) -> YearTerms
+pub(crate) fn terms_in(y: u64, root: u64) -> YearTerms
     requires { ⌜ (y ≤ 4_000) × (root ≡ rootOf y) ⌝ }
     ensures { λ r. ⌜ (r .answer ≡ Listed.All) × (termsListed r ≡ inOrder (termOf epicycles y) 24) ⌝ }
 {
@@ -131,7 +131,7 @@ fn terms_in(y: u64, root: u64) -> YearTerms
     }
 }
 
-// The 24 terms of the year n.
+// The 24 terms of the year n, by value.
 pub fn terms_of(n: i64) -> YearTerms
     ensures { λ r. ⌜ (saidTerms r ≡ termsAnswer epicycles n) × (termsListed r ≡ heldTerms (termsAnswer epicycles n)) ⌝ }
 {

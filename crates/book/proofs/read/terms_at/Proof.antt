@@ -3,18 +3,14 @@ use mathlib.Core.Path.{_≡_, refl, _∙_, subst}
 use mathlib.Core.List.{List}
 use Prim.Native.Nat.{ℕ, _+_, _*_, _-_, _≤_}
 use native.Mathlib.Omega.{arith}
-use lib.IntN.{pos}
 use lib.ListN.{length, replicate, length-set, drop}
 use Rattle.law.specs.Document.{TermValues}
 use Rattle.law.specs.Book.{termIn}
 use Rattle.law.proofs.InOrder.{Filled, filled-none, filled-more, filled-all}
 use Rattle.sun.specs.Said.{valuesOf}
-use Rattle.sun.specs.declared.term.TermRecord.{TermRecord}
+use Rattle.sun.specs.Records.{blank}
 use Rattle.book.proofs.read.terms_at.Statement.{statement}
 use Rattle.book.proofs.read.terms_at.Tie as tie
-
-abbrev blank : TermRecord
-blank = record { day = pos 0; minute = 0; count = 0 }
 
 abbrev termIs : List ℕ → ℕ → TermValues
 termIs b k = termIn (drop (5 + k * 6) b)

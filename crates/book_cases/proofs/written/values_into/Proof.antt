@@ -5,14 +5,14 @@ use borrow.Author.Needs.{needs}
 use Rattle.book_cases.proofs.written.values_into.Statement.{statement}
 use Rattle.book_cases.proofs.written.values_into.Tie as tie
 
-slice-relend-prefix-write-year-from : tie.Need-slice-relend-prefix-write-year-from
-slice-relend-prefix-write-year-from c = search needs
+slice-relend-prefix-written-from : tie.Need-slice-relend-prefix-written-from
+slice-relend-prefix-written-from c = search needs
 
-slice-aggregate-write-year-from : tie.Need-slice-aggregate-write-year-from
-slice-aggregate-write-year-from c = simp length-take (omega arith)
+slice-aggregate-written-from : tie.Need-slice-aggregate-written-from
+slice-aggregate-written-from c = simp length-take (omega arith)
 
-write-year-from-requires : tie.Need-write-year-from-requires
-write-year-from-requires c κs = search needs
+written-from-requires : tie.Need-written-from-requires
+written-from-requires c κs = search needs
 
 answer-requires : tie.Need-answer-requires
 answer-requires c κs = search needs
@@ -30,9 +30,9 @@ pub values-into-spec : {M : Type 1} → statement M
 values-into-spec =
     tie.close
     (tie.spec
-    slice-relend-prefix-write-year-from
-    slice-aggregate-write-year-from
-    write-year-from-requires
+    slice-relend-prefix-written-from
+    slice-aggregate-written-from
+    written-from-requires
     answer-requires
     same-length
     returns

@@ -1,7 +1,6 @@
 -- The lifted mean place, brought into the circle, is the document's; a refusal is passed on. Assumes nothing.
 use mathlib.Core.Path.{ap, _∙_}
 use Prim.Native.Nat.{_+_, _*_, _-_, _%_}
-use native.Mathlib.Omega.{arith}
 use borrow.Author.Needs.{needs}
 use Rattle.law.specs.Answer.{value}
 use Rattle.law.specs.Document.{circle, dailyMotion, inCircle, meanPlace, meanAnswer}

@@ -1,7 +1,6 @@
 -- The lifted place, brought into the circle, is the document's true place; a refusal is passed on. Assumes nothing.
 use mathlib.Core.Path.{subst}
 use Prim.Native.Nat.{_≤_}
-use native.Mathlib.Omega.{arith}
 use borrow.Author.Needs.{needs}
 use Rattle.law.specs.Document.{epicycles}
 use Rattle.units.specs.Said.{numberOf}

@@ -1,7 +1,6 @@
 -- The year's four values are the document's, and refusal 1 exactly outside its years. Assumes nothing.
 use mathlib.Core.Bool.{true}
 use mathlib.Core.Path.{_≡_, refl}
-use native.Mathlib.Omega.{arith}
 use borrow.Author.Needs.{needs}
 use Rattle.law.specs.Document.{badYear, yearAnswer}
 use Rattle.law.specs.Working.{rootOf}

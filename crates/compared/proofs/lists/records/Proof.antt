@@ -1,20 +1,17 @@
--- The loop counts k up to 24. Assumes nothing.
+-- The loop counts k up to 26. Assumes nothing.
 use borrow.Author.Needs.{needs}
 use Prim.Native.Nat.{_≤_, _-_}
-use Rattle.compared.proofs.terms.records.Statement.{statement}
-use Rattle.compared.proofs.terms.records.Tie as tie
+use Rattle.compared.proofs.lists.records.Statement.{statement}
+use Rattle.compared.proofs.lists.records.Tie as tie
 
 abbrev Inv-loop : tie.InvT-loop
-Inv-loop n at k₀ k = k ≤ 24
+Inv-loop at k₀ k = k ≤ 26
 
 abbrev μ-loop : tie.MeasureT-loop
-μ-loop n at k₀ k = 24 - k
+μ-loop at k₀ k = 26 - k
 
 loop-holds : tie.Need-loop-holds Inv-loop μ-loop
 loop-holds c = search needs
-
-head-requires : tie.Need-head-requires Inv-loop μ-loop
-head-requires c κs = search needs
 
 mul-values : tie.Need-mul-values Inv-loop μ-loop
 mul-values c = search needs
@@ -44,7 +41,6 @@ records-spec =
     Inv-loop
     μ-loop
     loop-holds
-    head-requires
     mul-values
     array-copy-out-values
     values-requires

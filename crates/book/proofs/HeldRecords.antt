@@ -1,0 +1,57 @@
+-- Records by value, given to be written: the first 24 of a list, or none of a list that has fewer. Assumes nothing.
+use mathlib.Core.List.{List, [], append-nil, map}
+use mathlib.Core.Path.{_≡_, refl, _∙_, ap}
+use Prim.Native.Nat.{ℕ, _≤_, _<_}
+use native.Mathlib.Decide.{decLt}
+use native.Mathlib.Omega.{arith}
+use borrow.Author.Tests.{lt-ltb, le-leb, lt-leb}
+use lib.IntN.{ℤ}
+use lib.ListN.{length, length-map, take}
+use lib.Seq.{length-take-le, take-all}
+use Rattle.law.specs.Document.{TermValues}
+use Rattle.law.specs.Book.{writeAnswer}
+use Rattle.sun.specs.declared.records.Records.{Records}
+use Rattle.sun.specs.declared.term.TermRecord.{TermRecord}
+use Rattle.sun.specs.Said.{valuesOf}
+use Rattle.sun.specs.Records.{held, firstCount, firstRecords}
+use Rattle.book.specs.Said.{givenYear}
+
+-- ---- the records that are meant
+
+module _ (r : Records) (l : length (r .at) ≡ 24) where
+  pub held-all : 24 ≤ r .count → held r ≡ r .at
+  held-all h = take-all (r .count) (r .at) (omega arith)
+
+  pub held-few : r .count < 24 → length (held r) < 24
+  held-few h = let e = length-take-le (r .count) (r .at) (omega arith) in omega arith
+
+-- ---- a list given to be written
+
+-- fewer than 24 are refused, whatever they are
+write-few : (n : ℤ) (x y : ℕ) (ts us : List TermValues) (b : List ℕ) → length ts < 24 → length us < 24
+    → writeAnswer (record { yearN = n; yearName = x; yearMansion = y; yearTerms = ts }) b
+    ≡ writeAnswer (record { yearN = n; yearName = x; yearMansion = y; yearTerms = us }) b
+unfolding writeAnswer
+write-few n x y ts us b h g = rw (lt-ltb (length ts) 24 h, lt-ltb (length us) 24 g) refl
+
+first-held : (l : List TermRecord) → 24 ≤ length l → held (firstRecords (length l) l) ≡ take 24 l
+unfolding firstCount
+first-held l h =
+    let n = length-take-le 24 l h in
+    rw (le-leb 24 (length l) h) (ap (take 24) (append-nil (take 24 l)) ∙ take-all 24 (take 24 l) (omega arith))
+
+first-none : (l : List TermRecord) → length l < 24 → held (firstRecords (length l) l) ≡ []
+unfolding firstCount
+first-none l h = rw (lt-leb 24 (length l) h) refl
+
+pub first-written : (n : ℤ) (x y : ℕ) (l : List TermRecord) (b : List ℕ)
+    → writeAnswer (givenYear n x y (held (firstRecords (length l) l))) b ≡ writeAnswer (givenYear n x y (take 24 l)) b
+first-written n x y l b = by (decLt (length l) 24)
+  where
+    by : Dec (length l < 24) → writeAnswer (givenYear n x y (held (firstRecords (length l) l))) b ≡ writeAnswer (givenYear n x y (take 24 l)) b
+    by (yes h) =
+        let none = first-none l h in
+        let few : length (map valuesOf (held (firstRecords (length l) l))) < 24 = rw none (omega arith) in
+        let all : take 24 l ≡ l = take-all 24 l (omega arith) in
+        write-few n x y (map valuesOf (held (firstRecords (length l) l))) (map valuesOf (take 24 l)) b few (rw all (omega (arith, length-map l valuesOf)))
+    by (no h) = ap (λ (ts : List TermRecord). writeAnswer (givenYear n x y ts) b) (first-held l (omega arith))
