@@ -470,7 +470,8 @@ INPUTS = [
 
 def expected_files():
     """Every expected file's path and bytes."""
-    import term_book  # here, since it takes its values from this file
+    import term_book  # here, since they take their values from this file
+    import wall_ring
 
     for path, parts in EXPECTED_FILES:
         yield path, "".join(line + "\n" for part in parts for line in part()).encode()
@@ -478,6 +479,7 @@ def expected_files():
         yield f"{folder}/stdin", given
         yield f"{folder}/stdout", answers_to(given)
     yield from term_book.expected_files()
+    yield from wall_ring.expected_files()
 
 
 def main(arguments):

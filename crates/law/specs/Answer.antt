@@ -20,3 +20,13 @@ done (refused number) = refused number
 abbrev pub afterwards : {A : Type 0} → A → Answer A → A
 afterwards before (value filled) = filled
 afterwards before (refused number) = before
+
+-- a refusal's number, and 0 where there is none
+abbrev pub refusalIn : {A : Type 0} → Answer A → ℕ
+refusalIn (value v) = 0
+refusalIn (refused number) = number
+
+-- one part of the value
+abbrev pub part : {A B : Type 0} → (A → B) → Answer A → Answer B
+part f (value v) = value (f v)
+part f (refused number) = refused number
