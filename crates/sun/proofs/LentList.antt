@@ -1,7 +1,7 @@
 -- A local array of records whose first places are lent as a list, and which is read whole again afterwards. For callers that are
 -- proved by hand. Assumes `Given`.
 use mathlib.Core.List.{List, [], _∷_, _++_}
-use mathlib.Core.Path.{_≡_, refl}
+use mathlib.Core.Path.{_≡_}
 use Prim.Native.Nat.{ℕ, zero, suc, _+_, _≤_}
 use native.Mathlib.Nat.{not-suc-le-zero, le-of-suc-le-suc}
 use lib.ListN.{length, take, drop as dropped}

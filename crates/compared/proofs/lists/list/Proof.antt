@@ -2,7 +2,7 @@
 -- Assumes nothing.
 use mathlib.Core.List.{[], _∷_, List, map, _++_}
 use mathlib.Core.Path.{_≡_, refl, sym, ap, subst, _∙_}
-use Prim.Native.Nat.{ℕ, _<_, _≤_, _^_, _*_}
+use Prim.Native.Nat.{ℕ, _<_, _≤_, _^_}
 use native.Mathlib.Omega.{arith}
 use lib.Dec.{T as Holds, lit<}
 use lib.IntN.{ℤ, pos}
@@ -46,7 +46,7 @@ use denote.Triple.Clauses.{ensured, lasts}
 use denote.Triple.Entry.{onEntry}
 use denote.Triple.Spec.{Meets, tripleOf}
 use denote.Triple.Table.{entered, cited}
-use denote.Triple.Walked.{says, Stays, stay-none, needs, walkOf, goes-none, Walks, ends-at, walked, walk-meets}
+use denote.Triple.Walked.{Stays, stay-none, needs, walkOf, goes-none, Walks, ends-at, walked, walk-meets}
 use denote.Exit.{yes}
 use Rattle.law.specs.Answer.{done as whether}
 use Rattle.law.specs.Document.{epicycles, fillAnswer, filled}

@@ -1,0 +1,21 @@
+//! Prints the 24 terms of the epoch year 1684 with the number of each day's name and the time at the
+//! capital, and what a year out of range is answered. example.c does the same in C.
+
+use outside::{wall, Refusal};
+
+fn main() -> Result<(), Refusal> {
+    let n = 0;
+    let solstice = wall::year(n)?;
+    println!("year {n}: day name {}, mansion {}", solstice.day_name, solstice.mansion);
+    for k in 0..24 {
+        let term = wall::term(n, k)?;
+        // Day 0 is the day after the mean solstice's.
+        let day_name = (solstice.day_name as i64 + 1 + term.day).rem_euclid(60);
+        let (hour, minute) = (term.minute / 60, term.minute % 60);
+        println!("term {k:2}: day {:3}, name {day_name:2}, {hour:02}:{minute:02}", term.day);
+    }
+    if let Err(refusal) = wall::year(2_001) {
+        println!("year 2001: refused {}", refusal.number);
+    }
+    Ok(())
+}

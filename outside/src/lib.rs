@@ -1,0 +1,44 @@
+//! Document 01 a second time, from outside: `reckoning` follows the document's sentences and shares
+//! nothing with the library's sources or tables; `wall` calls the library; `fast` is the reckoning
+//! written for speed, for the benchmark. The types below carry answers and hold no rule.
+
+pub mod fast;
+pub mod reckoning;
+pub mod wall;
+
+/// A refusal by document 01's number; the byte of the record at fault where a book is refused.
+#[derive(Clone, Copy, Debug, PartialEq, Eq)]
+pub struct Refusal {
+    pub number: u64,
+    pub byte: Option<usize>,
+}
+
+impl Refusal {
+    /// A refusal that has nothing to do with a place in a book.
+    pub const fn number(number: u64) -> Refusal {
+        Refusal { number, byte: None }
+    }
+}
+
+/// The mean winter solstice of a year; the fraction of its day in thousand-millionths.
+#[derive(Clone, Copy, Debug, Default, PartialEq, Eq)]
+pub struct Solstice {
+    pub day_name: u64,
+    pub fraction: u64,
+    pub mansion: u64,
+}
+
+/// A term's day and minute, and the number of midnights visited to find it.
+#[derive(Clone, Copy, Debug, Default, PartialEq, Eq)]
+pub struct Term {
+    pub day: i64,
+    pub minute: u64,
+    pub count: u64,
+}
+
+/// A day and a minute of it, at the capital or at a place.
+#[derive(Clone, Copy, Debug, Default, PartialEq, Eq)]
+pub struct Moment {
+    pub day: i64,
+    pub minute: u64,
+}

@@ -1,0 +1,173 @@
+//! The library's calls. `plain` has them in their C shape, with references for pointers, so that a
+//! caller sees what a refusal leaves as it was; the functions of this file give a `Result` instead.
+//! Nothing here is unsafe to call: a reference or a slice is always a valid pointer.
+
+use crate::{Moment, Refusal, Solstice, Term};
+
+/// Each call answers 0 or the refusal's number, and stores the rest through its last parameters.
+pub mod plain {
+    mod library {
+        extern "C" {
+            pub fn bhromilun_year(
+                n: i64,
+                day_name: &mut u64,
+                fraction: &mut u64,
+                mansion: &mut u64,
+            ) -> u64;
+            pub fn bhromilun_equation(anomaly: i64, equation: &mut i64) -> u64;
+            pub fn bhromilun_mean_place(n: i64, day: i64, place: &mut u64) -> u64;
+            pub fn bhromilun_true_place(n: i64, day: i64, place: &mut u64) -> u64;
+            pub fn bhromilun_term(
+                n: i64,
+                k: u64,
+                day: &mut i64,
+                minute: &mut u64,
+                count: &mut u64,
+            ) -> u64;
+            pub fn bhromilun_local_time(
+                day: i64,
+                minute: u64,
+                longitude: i64,
+                day_there: &mut i64,
+                minute_there: &mut u64,
+            ) -> u64;
+            pub fn bhromilun_write_year(n: i64, buffer: *mut u8, length: usize) -> u64;
+            pub fn bhromilun_check_book(bytes: *const u8, length: usize, byte: &mut usize) -> u64;
+            pub fn bhromilun_seek_year(
+                bytes: *const u8,
+                length: usize,
+                n: i64,
+                start: &mut usize,
+                end: &mut usize,
+                byte: &mut usize,
+            ) -> u64;
+        }
+    }
+
+    pub fn year(n: i64, day_name: &mut u64, fraction: &mut u64, mansion: &mut u64) -> u64 {
+        unsafe { library::bhromilun_year(n, day_name, fraction, mansion) }
+    }
+
+    pub fn equation(anomaly: i64, equation: &mut i64) -> u64 {
+        unsafe { library::bhromilun_equation(anomaly, equation) }
+    }
+
+    pub fn mean_place(n: i64, day: i64, place: &mut u64) -> u64 {
+        unsafe { library::bhromilun_mean_place(n, day, place) }
+    }
+
+    pub fn true_place(n: i64, day: i64, place: &mut u64) -> u64 {
+        unsafe { library::bhromilun_true_place(n, day, place) }
+    }
+
+    pub fn term(n: i64, k: u64, day: &mut i64, minute: &mut u64, count: &mut u64) -> u64 {
+        unsafe { library::bhromilun_term(n, k, day, minute, count) }
+    }
+
+    pub fn local_time(
+        day: i64,
+        minute: u64,
+        longitude: i64,
+        day_there: &mut i64,
+        minute_there: &mut u64,
+    ) -> u64 {
+        unsafe { library::bhromilun_local_time(day, minute, longitude, day_there, minute_there) }
+    }
+
+    pub fn write_year(n: i64, buffer: &mut [u8]) -> u64 {
+        unsafe { library::bhromilun_write_year(n, buffer.as_mut_ptr(), buffer.len()) }
+    }
+
+    /// `byte` is stored in every case: the length of a sound book, else the byte of the record at fault.
+    pub fn check_book(bytes: &[u8], byte: &mut usize) -> u64 {
+        unsafe { library::bhromilun_check_book(bytes.as_ptr(), bytes.len(), byte) }
+    }
+
+    /// `start` and `end` are stored where the year is found, `byte` where the book is at fault.
+    pub fn seek_year(
+        bytes: &[u8],
+        n: i64,
+        start: &mut usize,
+        end: &mut usize,
+        byte: &mut usize,
+    ) -> u64 {
+        unsafe { library::bhromilun_seek_year(bytes.as_ptr(), bytes.len(), n, start, end, byte) }
+    }
+}
+
+fn answered<T>(number: u64, answer: T) -> Result<T, Refusal> {
+    match number {
+        0 => Ok(answer),
+        number => Err(Refusal::number(number)),
+    }
+}
+
+/// The mean winter solstice of the year `n`, or refusal 1.
+pub fn year(n: i64) -> Result<Solstice, Refusal> {
+    let mut solstice = Solstice::default();
+    let number =
+        plain::year(n, &mut solstice.day_name, &mut solstice.fraction, &mut solstice.mansion);
+    answered(number, solstice)
+}
+
+/// The equation of centre in units, at any anomaly in units.
+pub fn equation(anomaly: i64) -> Result<i64, Refusal> {
+    let mut equation = 0;
+    let number = plain::equation(anomaly, &mut equation);
+    answered(number, equation)
+}
+
+/// The mean sun at the midnight of `day`, in units within the circle, or refusal 1 or 2.
+pub fn mean_place(n: i64, day: i64) -> Result<u64, Refusal> {
+    let mut place = 0;
+    let number = plain::mean_place(n, day, &mut place);
+    answered(number, place)
+}
+
+/// The true sun at the midnight of `day`, in units within the circle, or refusal 1 or 2.
+pub fn true_place(n: i64, day: i64) -> Result<u64, Refusal> {
+    let mut place = 0;
+    let number = plain::true_place(n, day, &mut place);
+    answered(number, place)
+}
+
+/// Term `k` of the year `n`, or refusal 1 or 3.
+pub fn term(n: i64, k: u64) -> Result<Term, Refusal> {
+    let mut term = Term::default();
+    let number = plain::term(n, k, &mut term.day, &mut term.minute, &mut term.count);
+    answered(number, term)
+}
+
+/// The day and minute at a place `longitude` seconds of arc east of the capital, or refusal 2 or 4.
+pub fn local_time(day: i64, minute: u64, longitude: i64) -> Result<Moment, Refusal> {
+    let mut there = Moment::default();
+    let number = plain::local_time(day, minute, longitude, &mut there.day, &mut there.minute);
+    answered(number, there)
+}
+
+/// Fills the first 149 bytes with the year's book and hands them out, or refusal 1 or 6.
+pub fn write_year(n: i64, buffer: &mut [u8]) -> Result<&[u8], Refusal> {
+    match plain::write_year(n, buffer) {
+        0 => Ok(&buffer[..149]),
+        number => Err(Refusal::number(number)),
+    }
+}
+
+/// Nothing for a sound book, else refusal 7 to 10 with the byte of the record at fault.
+pub fn check_book(bytes: &[u8]) -> Result<(), Refusal> {
+    let mut byte = 0;
+    match plain::check_book(bytes, &mut byte) {
+        0 => Ok(()),
+        number => Err(Refusal { number, byte: Some(byte) }),
+    }
+}
+
+/// The 149 bytes of the year `n` in the book; else refusal 1, the whole book's, or 12.
+pub fn seek_year(bytes: &[u8], n: i64) -> Result<&[u8], Refusal> {
+    let (mut start, mut end, mut byte) = (0, 0, 0);
+    match plain::seek_year(bytes, n, &mut start, &mut end, &mut byte) {
+        0 => Ok(&bytes[start..end]),
+        number @ 7..=10 => Err(Refusal { number, byte: Some(byte) }),
+        number => Err(Refusal::number(number)),
+    }
+}
