@@ -76,7 +76,11 @@ use Rattle.book_cases.proofs.readers.calls.Statement as stated
 use Rattle.book_cases.proofs.readers.calls.Code as code
 
 abbrev stayed : Stays (this.ended .signature .params) (this.ended .kept)
-stayed = (stay-none-slice (0 ∷ []) tt (plain (λ _. u8)) yes, tt)
+stayed = (
+  stay-none-slice (0 ∷ []) tt
+      (plain (λ _. u8)) yes,
+  tt,
+)
 
 -- the locals' types
 abbrev slice : Ty
@@ -116,8 +120,8 @@ module _ {M : Type 1} (𝓤 : URA M) (H : Heap 𝓤) (A : Atoms 𝓤) (W : Given
   abbrev α : NamedLft
   α = record { mir = named 1; lft = κ }
 
-  abbrev αᵉ : NamedLft
-  αᵉ = record { mir = erased; lft = κ }
+  abbrev inside : NamedLft
+  inside = record { mir = erased; lft = κ }
 
   abbrev Lent : RattleType
   Lent = ShrSlice (named 0) κ u8
@@ -151,8 +155,8 @@ module _ {M : Type 1} (𝓤 : URA M) (H : Heap 𝓤) (A : Atoms 𝓤) (W : Given
   abbrev at : List Val × Unit {0}
   at = (s ∷ [], tt)
 
-  abbrev Own : Fml
-  Own = Lent .own book (s ∷ [])
+  abbrev Bytes : Fml
+  Bytes = Lent .own book (s ∷ [])
 
   abbrev Token : Item 𝓤
   Token = ‵ (flft κ q) ⊛ ‵ ftrue
@@ -160,9 +164,9 @@ module _ {M : Type 1} (𝓤 : URA M) (H : Heap 𝓤) (A : Atoms 𝓤) (W : Given
   abbrev Post : Val → SProp 𝓤
   Post = walkOf 𝓤 H A this.ended stayed (this.clauses 𝓤 H A mem run) .post (((κ, tt), (q, tt), tt, a, at), tt)
 
-  exits : ent 𝓤 (⋆ 𝓤 H A (‵ (flft κ q) ∷ ‵ Own ∷ [])) (Post vunit)
+  exits : ent 𝓤 (⋆ 𝓤 H A (‵ (flft κ q) ∷ ‵ Bytes ∷ [])) (Post vunit)
   exits =
-      qed W (‵ (flft κ q) ∷ ‵ Own ∷ []) ∵
+      qed W (‵ (flft κ q) ∷ ‵ Bytes ∷ []) ∵
       suffices ! _ (ends-at 𝓤 H A this.ended stayed (this.clauses 𝓤 H A mem run) W (((κ, tt), (q, tt), tt, a, at), tt) vunit tt (tt, tt) (tt, tt)) $
       nothing ! $ feqI ! (List Val) (vunit ∷ []) (vunit ∷ []) refl $ nothing ! $ move ! (4 ∷ 0 ∷ []) $ fjoin ! $ join ! $
       nothing ! $ move ! (3 ∷ 0 ∷ []) $ join ! $ join ! $ done !
@@ -194,8 +198,8 @@ module _ {M : Type 1} (𝓤 : URA M) (H : Heap 𝓤) (A : Atoms 𝓤) (W : Given
   abbrev to-open : Open 𝓤 H A mem run .Ghost
   to-open = (((κ, tt), (q, tt), tt, a, at), tt)
 
-  goes-open : ent 𝓤 (sep 𝓤 (sep 𝓤 (A .lft κ q) (sem 𝓤 H A ftrue)) (sem 𝓤 H A Own)) (Open 𝓤 H A mem run .pre to-open)
-  goes-open = qed W (Token ∷ ‵ Own ∷ []) ∵ nothing ! $ move ! (2 ∷ 0 ∷ []) $ fjoin ! $ move ! (1 ∷ 0 ∷ []) $ join ! $ frame ! $ done !
+  goes-open : ent 𝓤 (sep 𝓤 (sep 𝓤 (A .lft κ q) (sem 𝓤 H A ftrue)) (sem 𝓤 H A Bytes)) (Open 𝓤 H A mem run .pre to-open)
+  goes-open = qed W (Token ∷ ‵ Bytes ∷ []) ∵ nothing ! $ move ! (2 ∷ 0 ∷ []) $ fjoin ! $ move ! (1 ∷ 0 ∷ []) $ join ! $ frame ! $ done !
 
   -- the call's lifetime ν ∷ κ is within the book's κ, whose token is halved between the two
   abbrev ql : Share
@@ -251,7 +255,7 @@ module _ {M : Type 1} (𝓤 : URA M) (H : Heap 𝓤) (A : Atoms 𝓤) (W : Given
     -- what stands where the test is reached: the token, what the book and the reader own, the locals, and that each dies
     abbrev At : Turns → List (Item 𝓤)
     At k =
-        ‵ (flft κ q) ∷ ‵ Own ∷ ‵ (Kept (k .1 .1)) ∷ ‵ (Local (k .1 .1) l₂) ∷ ‵ (fat fullShare word l₃ 0 (vint w64 (k .0))) ∷ ‵ (froom handed-in l₄ 0)
+        ‵ (flft κ q) ∷ ‵ Bytes ∷ ‵ (Kept (k .1 .1)) ∷ ‵ (Local (k .1 .1) l₂) ∷ ‵ (fat fullShare word l₃ 0 (vint w64 (k .0))) ∷ ‵ (froom handed-in l₄ 0)
         ∷ ‵ (froom tyBool l₆ 0) ∷ ‵ (froom reader-ref l₇ 0) ∷ ‵ (froom tyUnit l₈ 0) ∷ ‵ (froom slice-in l₉ 0) ∷ ‵ (froom what-laws.mir l₁₀ 0)
         ∷ ‵ (fat fullShare slice l₁ 0 s) ∷ ‵ (froom reader-in l₅ 0) ∷ ‵ (froom tyUnit l₀ 0)
         ∷ ‵ (fdies tyUnit l₀) ∷ ‵ (fdies slice l₁) ∷ ‵ (fdies reader-in l₂) ∷ ‵ (fdies word l₃) ∷ ‵ (fdies handed-in l₄) ∷ ‵ (fdies reader-in l₅)
@@ -295,7 +299,7 @@ module _ {M : Type 1} (𝓤 : URA M) (H : Heap 𝓤) (A : Atoms 𝓤) (W : Given
         peeks ! (handed.the-row α) (Is (handed.the-row α)) (shows 𝓤 H A (handed.the-row α)) g (u ∷ []) (λ is.
         let told : u ∷ [] ≡ LL.vals Out-type Out-laws g = LL.tells Out-type Out-laws g (u ∷ []) is in
         let fields = LL.owed Out-type Out-laws g _ (subst (Is (handed.the-row α) g) told is) in
-        land ! (from ! (stop !)) (init ! 9 refl (LL.lawful (handed.the-type αᵉ) (handed-laws.the-laws αᵉ) 𝓤 H A W .typed g _ is .0)) $
+        land ! (from ! (stop !)) (init ! 9 refl (LL.lawful (handed.the-type inside) (handed-laws.the-laws inside) 𝓤 H A W .typed g _ is .0)) $
         rewrite ! 9 (λ (v : Val). ‵ (fat fullShare handed-in l₄ 0 v)) (ap only told) refl $
         rewrite ! 0 (λ (vs : List Val). ‵ (handed.the-row α .own g vs)) told refl $
         -- the call's lifetime is ended, and the reader comes back
@@ -329,14 +333,14 @@ module _ {M : Type 1} (𝓤 : URA M) (H : Heap 𝓤) (A : Atoms 𝓤) (W : Given
       alloc1 ! (λ l₀. alloc1 ! (λ l₁. alloc1 ! (λ l₂. alloc1 ! (λ l₃. alloc1 ! (λ l₄. alloc1 ! (λ l₅. alloc1 ! (λ l₆. alloc1 ! (λ l₇. alloc1 ! (λ l₈. alloc1 ! (λ l₉. alloc1 ! (λ l₁₀. alloc0 ! $ params1 ! $
       pass1 ! (init ! 18 refl (shr-slice-lawful 𝓤 H A W (named 0) κ u8 .typed book (s ∷ []) is-book .0)) $ pass0 ! $
       -- [_10; …; _9; …; _8; …; _7; …; _6; …; _5; …; _4; …; _3; …; _2; …; _1; …; _0; …; the token; what the parameter owns]
-      move ! (23 ∷ []) $ fsplit ! $ use1 W (‵ Own ⊛ ‵ Own) (shr-slice-copy 𝓤 H A W (named 0) κ u8 .twice book (s ∷ [])) $ split ! $
+      move ! (23 ∷ []) $ fsplit ! $ use1 W (‵ Bytes ⊛ ‵ Bytes) (shr-slice-copy 𝓤 H A W (named 0) κ u8 .twice book (s ∷ [])) $ split ! $
       move ! (25 ∷ 0 ∷ []) $ use2 W (raw (Open 𝓤 H A mem run .pre to-open)) goes-open $
       calls-at ! (fmOf 𝓤 H (W .laws) 𝓣) (Open 𝓤 H A mem run) known-open to-open (and-then ! (load ! (from ! (stop !)) (look ! 21 refl)) (no-more !)) (λ v.
       answered ! tt opened.signature (opened.spec 𝓤 H A mem run) to-open v (λ _. Unit {0}) (‵ (flft κ q)) (λ _. factI 𝓤 (Unit {0}) _ tt) (fst∗ 𝓤 _ (emp 𝓤)) (λ h _ is.
       let told : v ∷ [] ≡ reader-laws.lowered h ∷ [] = LL.tells D L h (v ∷ []) is in
-      let typed = LL.lawful (reader.the-type αᵉ) (reader-laws.the-laws αᵉ) 𝓤 H A W .typed h _ (subst (Is R h) told is) .0 in
+      let typed = LL.lawful (reader.the-type inside) (reader-laws.the-laws inside) 𝓤 H A W .typed h _ (subst (Is R h) told is) .0 in
       -- [what the reader owns; the token; the book; true; _10; …; _0; …]
-      land ! (from ! (stop !)) (init ! 14 refl (LL.lawful (reader.the-type αᵉ) (reader-laws.the-laws αᵉ) 𝓤 H A W .typed h _ is .0)) $
+      land ! (from ! (stop !)) (init ! 14 refl (LL.lawful (reader.the-type inside) (reader-laws.the-laws inside) 𝓤 H A W .typed h _ is .0)) $
       rewrite ! 14 (λ (u : Val). ‵ (fat fullShare reader-in l₅ 0 u)) (ap only told) refl $ rewrite ! 0 (λ (vs : List Val). ‵ (R .own h vs)) told refl $
       assigns ! (of-opd ! (load ! (from ! (stop !)) (look ! 14 refl))) (from ! (stop !)) (init ! 20 refl typed) $
       assigns ! (of-opd ! (lit ! tt)) (from ! (stop !)) (init ! 18 refl (tt, record { fits = lit< tt })) $ forget ! 14 refl $
