@@ -11,12 +11,16 @@ use units::Signed;
 ghost use mathlib.Core.Path.{_≡_};
 ghost use Prim.Native.Nat.{_+_, _*_, _-_, _/_, _≤_, _<_, _^_};
 ghost use Rattle.law.specs.Round.{halfUp};
-ghost use Rattle.law.specs.Document.{minute, quarter, half, circle, inCircle, sine, epicycles, equationAnswer};
+ghost use Rattle.law.specs.Document.{minute, tenMinutes, quarter, half, circle, radius, inCircle, sine, epicycles, equationAnswer};
+ghost use Rattle.law.specs.Entry.{sineEntry};
 ghost use Rattle.law.specs.Working.{heightOf, baseOf, tangentOf, angleAnswer, sizeAnswer};
 ghost use Rattle.units.specs.Said.{saidNumber, saidSigned};
 ghost use Rattle.sun.specs.Said.{numberUpTo};
 
 const TEN_MINUTES: u64 = 10 * MINUTE;
+
+// The table's entry at 130 minutes.
+const LAST_TANGENT: u64 = 378_335;
 
 // n / d, half or more rounded up.
 pub(crate) fn half_up(n: u64, d: u64) -> u64
@@ -37,33 +41,43 @@ fn in_circle(z: i64) -> u64
     size % CIRCLE
 }
 
-// The sine of an arc up to a quarter circle.
-fn sine_of(x: u64) -> u64
-    requires { ⌜ x ≤ quarter ⌝ }
+// The sine of an arc up to a quarter circle, from the entries below and above it.
+fn sine_of(x: u64, below: u64, above: u64) -> u64
+    requires { ⌜ (x ≤ quarter) × (below ≡ sineEntry (x / tenMinutes)) × (above ≡ sineEntry (x / tenMinutes + 1)) ⌝ }
     ensures { λ r. ⌜ (r ≡ sine x) × (r ≤ 10_000_000) ⌝ }
 {
-    let k = (x / TEN_MINUTES) as usize;
-    let below = tables::sine_entry(k);
-    if k == 540 {
+    if x / TEN_MINUTES == 540 {
         return below;
     }
-    let above = tables::sine_entry(k + 1);
     below + (above - below) * (x % TEN_MINUTES) / TEN_MINUTES
 }
 
-// Step 1: an arc from the perigee or the apogee, up to a quarter circle.
-fn height(x: u64) -> u64
-    requires { ⌜ x ≤ quarter ⌝ }
-    ensures { λ r. ⌜ (r ≡ heightOf epicycles x) × (r ≤ 179_208) ⌝ }
+// Step 1, of the sine or the cosine.
+fn leg(sine: u64) -> u64
+    requires { ⌜ sine ≤ 10_000_000 ⌝ }
+    ensures { λ r. ⌜ r ≡ halfUp (epicycles * sine) radius ⌝ }
 {
-    half_up(EPICYCLES * sine_of(x), RADIUS)
+    half_up(EPICYCLES * sine, RADIUS)
 }
 
-fn base(x: u64) -> u64
+struct Legs {
+    height: u64,
+    base: u64,
+}
+
+// Of an arc from the perigee or the apogee, up to a quarter circle.
+fn legs_at(x: u64) -> Legs
     requires { ⌜ x ≤ quarter ⌝ }
-    ensures { λ r. ⌜ (r ≡ baseOf epicycles x) × (r ≤ 179_208) ⌝ }
+    ensures { λ r. ⌜ (r .height ≡ heightOf epicycles x) × (r .base ≡ baseOf epicycles x) × (r .height ≤ 179_208) × (r .base ≤ 179_208) ⌝ }
 {
-    half_up(EPICYCLES * sine_of(QUARTER - x), RADIUS)
+    let y = QUARTER - x;
+    let entries = tables::sine_entries((x / TEN_MINUTES) as u32, (y / TEN_MINUTES) as u32);
+    let sine = sine_of(x, entries.below, entries.above);
+    let cosine = sine_of(y, entries.other_below, entries.other_above);
+    Legs {
+        height: leg(sine),
+        base: leg(cosine),
+    }
 }
 
 // Steps 2 and 3: the arc from the perigee, up to a half circle.
@@ -72,38 +86,38 @@ fn tangent(u: u64) -> u64
     ensures { λ r. ⌜ r ≡ tangentOf epicycles u ⌝ }
 {
     if u <= QUARTER {
-        return half_up(2 * height(u) * RADIUS, RADIUS - base(u));
+        let near = legs_at(u);
+        return half_up(2 * near.height * RADIUS, RADIUS - near.base);
     }
-    let x = HALF - u;
-    half_up(2 * height(x) * RADIUS, RADIUS + base(x))
+    let far = legs_at(HALF - u);
+    half_up(2 * far.height * RADIUS, RADIUS + far.base)
 }
 
 // Step 4. Steps of 2,908 to 2,914 put the minute at t / 2,914 or one further.
 fn angle_of(t: u64) -> Number
     ensures { λ r. ⌜ (saidNumber r ≡ angleAnswer t) × numberUpTo 468_000_000_000 r ⌝ }
 {
-    let last = tables::tangent_entry(130);
-    if last < t {
+    if LAST_TANGENT < t {
         return Number::Refused(Refusal::TangentAbove);
     }
-    if t == last {
+    if t == LAST_TANGENT {
         return Number::Is(130 * MINUTE);
     }
-    let m = (t / 2_914) as usize;
-    let below = tables::tangent_entry(m);
-    let above = tables::tangent_entry(m + 1);
+    let m = t / 2_914;
+    let entries = tables::tangent_entries(m as u32);
+    let above = entries.above;
     if t < above {
-        return Number::Is(part(t, m, below, above));
+        return Number::Is(part(t, m, entries.below, above));
     }
-    Number::Is(part(t, m + 1, above, tables::tangent_entry(m + 2)))
+    Number::Is(part(t, m + 1, above, entries.next))
 }
 
 // The minute m and the proportional part of it, between the entries below and above t.
-fn part(t: u64, m: usize, below: u64, above: u64) -> u64
+fn part(t: u64, m: u64, below: u64, above: u64) -> u64
     requires { ⌜ (m < 130) × (below ≤ t) × (t < above) × (above < 2 ^ 30) ⌝ }
     ensures { λ r. ⌜ (r ≡ m * minute + (t - below) * minute / (above - below)) × (r ≤ 468_000_000_000) ⌝ }
 {
-    (m as u64) * MINUTE + (t - below) * MINUTE / (above - below)
+    m * MINUTE + (t - below) * MINUTE / (above - below)
 }
 
 // The size of the equation at an anomaly in the circle.

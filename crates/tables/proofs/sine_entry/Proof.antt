@@ -1,25 +1,16 @@
--- The entry that the code reads is the definition's: the two tables are one list. Assumes nothing.
-use mathlib.Core.Path.{refl, sym}
+-- The code's table and the definition's are one list. Assumes nothing.
 use borrow.Author.Needs.{needs}
-use native.Mathlib.Omega.{arith}
+use mathlib.Core.Path.{refl}
 use Rattle.law.specs.Sines.{sines}
-use Rattle.law.specs.Entry.{sineEntry}
-use Rattle.law.proofs.Rules.{sine-past}
 use Rattle.tables.proofs.sine_entry.Statement.{statement}
 use Rattle.tables.proofs.sine_entry.Tie as tie
 
-mul-result : tie.Need-mul-result
-mul-result c = search needs
-
-array-read-result : tie.Need-array-read-result
-array-read-result c = search needs
+sine-in-requires : tie.Need-sine-in-requires
+unfolding sines
+sine-in-requires c κs = refl
 
 returns : tie.Need-returns
-unfolding sineEntry sines
-returns c = refl
-
-returns-2 : tie.Need-returns-2
-returns-2 c = sym (sine-past (c .before .args .k) (omega arith))
+returns c = search needs
 
 pub sine-entry-spec : {M : Type 1} → statement M
-sine-entry-spec = tie.close (tie.spec mul-result array-read-result returns returns-2)
+sine-entry-spec = tie.close (tie.spec sine-in-requires returns)

@@ -1,84 +1,79 @@
 -- The minute is found at t / 2,914 or one further, by the tangent's step rule; refusal 5 exactly past the last entry. Assumes nothing.
-use mathlib.Core.Path.{_≡_, ap, sym, _∙_}
+use mathlib.Core.Path.{_≡_, refl, ap, sym, _∙_}
 use Prim.Native.Nat.{_+_, _/_, _<_}
 use native.Mathlib.Omega.{arith}
-use borrow.Author.Needs.{needs}
-use Rattle.law.specs.Entry.{lastTangent, tangentEntry}
-use Rattle.law.proofs.Rules.{tangent-range}
 use Rattle.law.specs.Answer.{value}
+use Rattle.law.specs.Entry.{lastTangent, tangentEntry}
+use Rattle.law.specs.Tangents.{tangents}
+use Rattle.law.proofs.Rules.{tangent-range}
 use Rattle.law.proofs.Angles.{Seat, seat, angle-refused, angle-last, angle-inside}
+use borrow.Author.Needs.{needs}
 use Rattle.sun.proofs.equation.angle_of.Statement.{statement}
 use Rattle.sun.proofs.equation.angle_of.Tie as tie
 
-tangent-entry-requires : tie.Need-tangent-entry-requires
-tangent-entry-requires c κs = search needs
-
-returns : tie.Need-returns
-returns c = (angle-refused (c .before .before .args .t) (omega arith), tt)
-
-mul-t8 : tie.Need-mul-t8
-mul-t8 c = search needs
-
-returns-2 : tie.Need-returns-2
-returns-2 c = (angle-last (c .before .before .before .args .t) (omega arith), omega arith)
-
-tangent-entry-requires-2 : tie.Need-tangent-entry-requires-2
-tangent-entry-requires-2 c κs = search needs
-
-add-tangent-entry : tie.Need-add-tangent-entry
-add-tangent-entry c = search needs
-
-tangent-entry-requires-3 : tie.Need-tangent-entry-requires-3
-tangent-entry-requires-3 c κs = search needs
+-- the code's last tangent is the table's
+last-is : tangentEntry lastTangent ≡ 378_335
+unfolding tangentEntry tangents
+last-is = refl
 
 -- below the last entry
-seated : (c : tie.Else2) → Seat (c .before .before .before .args .t) (c .before .before .before .args .t / 2_914)
-seated c = seat (c .before .before .before .args .t) (omega arith)
+seated : (c : tie.Else2) → Seat (c .before .before .args .t) (c .before .before .args .t / 2_914)
+seated c = seat (c .before .before .args .t) (omega (arith, last-is))
+
+-- one further
+further : (c : tie.Else3) → (c .before .before .before .before .args .t / 2_914 + 1 < lastTangent)
+    × (c .before .before .before .before .args .t < tangentEntry (c .before .before .before .before .args .t / 2_914 + 2))
+further c = seated (c .before .before) .next (omega (arith, c .before .tangent-entries .ensures .1))
+
+returns : tie.Need-returns
+returns c = (angle-refused (c .before .args .t) (omega (arith, last-is)), tt)
+
+mul-t7 : tie.Need-mul-t7
+mul-t7 c = search needs
+
+returns-2 : tie.Need-returns-2
+returns-2 c = (angle-last (c .before .before .args .t) (omega (arith, last-is)), omega arith)
+
+cast-tangent-entries : tie.Need-cast-tangent-entries
+cast-tangent-entries c = search needs
+
+tangent-entries-requires : tie.Need-tangent-entries-requires
+tangent-entries-requires c κs = search needs
 
 part-requires : tie.Need-part-requires
 part-requires c κs =
-    let s = seated (c .before .before .before) in
-    (s .small, omega (arith, c .before .before .tangent-entry2 .ensures, s .reached), search needs, omega (arith, c .before .tangent-entry3 .ensures, tangent-range (c .before .before .before .before .before .before .args .t / 2_914 + 1) (omega (arith, s .small))))
+    let s = seated (c .before .before) in
+    let e = c .before .tangent-entries .ensures in
+    (s .small, omega (arith, e .0, s .reached), search needs, omega (arith, e .1, tangent-range (c .before .before .before .before .args .t / 2_914 + 1) (omega (arith, s .small))))
 
 returns-3 : tie.Need-returns-3
 returns-3 c =
-    let t = c .before .before .before .before .before .before .before .args .t in
-    let s = seated (c .before .before .before .before) in (
+    let t = c .before .before .before .before .before .args .t in
+    let s = seated (c .before .before .before) in
+    let n = c .before .before .tangent-entries in (
       ap value (c .part .ensures .0)
-          ∙ angle-inside t (t / 2_914) (c .before .before .before .tangent-entry2 .result) (c .before .before .tangent-entry3 .result) (s .small)
-          (c .before .before .before .tangent-entry2 .ensures) (c .before .before .tangent-entry3 .ensures)
-          (omega (arith, c .before .before .before .tangent-entry2 .ensures, s .reached)) (search needs),
+          ∙ angle-inside t (t / 2_914) (n .result .below) (n .result .above) (s .small) (n .ensures .0) (n .ensures .1) (omega (arith, n .ensures .0, s .reached)) (search needs),
       c .part .ensures .1,
     )
 
 add-part : tie.Need-add-part
 add-part c = search needs
 
-add-tangent-entry-2 : tie.Need-add-tangent-entry-2
-add-tangent-entry-2 c = search needs
-
-tangent-entry-requires-4 : tie.Need-tangent-entry-requires-4
-tangent-entry-requires-4 c κs = search needs
-
--- one further
-further : (c : tie.After-tangent-entry4) → (c .before .before .before .before .before .before .before .args .t / 2_914 + 1 < lastTangent)
-    × (c .before .before .before .before .before .before .before .args .t < tangentEntry (c .before .before .before .before .before .before .before .args .t / 2_914 + 2))
-further c = seated (c .before .before .before .before) .next (omega (arith, c .before .before .tangent-entry3 .ensures))
-
 part-requires-2 : tie.Need-part-requires-2
 part-requires-2 c κs =
     let f = further c in
-    (f .0, search needs, omega (arith, c .tangent-entry4 .ensures, f .1), omega (arith, c .tangent-entry4 .ensures, tangent-range (c .before .before .before .before .before .before .before .args .t / 2_914 + 2) (omega (arith, f .0))))
+    let e = c .before .tangent-entries .ensures in
+    (f .0, search needs, omega (arith, e .2, f .1), omega (arith, e .2, tangent-range (c .before .before .before .before .args .t / 2_914 + 2) (omega (arith, f .0))))
 
 returns-4 : tie.Need-returns-4
 returns-4 c =
-    let t = c .before .before .before .before .before .before .before .before .args .t in
+    let t = c .before .before .before .before .before .args .t in
     let f = further (c .before) in
+    let n = c .before .before .tangent-entries in
     let e : t / 2_914 + 1 + 1 ≡ t / 2_914 + 2 = omega arith in (
       ap value (c .part2 .ensures .0)
-          ∙ angle-inside t (t / 2_914 + 1) (c .before .before .before .tangent-entry3 .result) (c .before .tangent-entry4 .result) (f .0)
-          (c .before .before .before .tangent-entry3 .ensures) (c .before .tangent-entry4 .ensures ∙ ap tangentEntry (sym e))
-          (search needs) (omega (arith, c .before .tangent-entry4 .ensures, f .1)),
+          ∙ angle-inside t (t / 2_914 + 1) (n .result .above) (n .result .next) (f .0) (n .ensures .1) (n .ensures .2 ∙ ap tangentEntry (sym e))
+          (search needs) (omega (arith, n .ensures .2, f .1)),
       c .part2 .ensures .1,
     )
 
@@ -86,17 +81,13 @@ pub angle-of-spec : {M : Type 1} → statement M
 angle-of-spec =
     tie.close
     (tie.spec
-    tangent-entry-requires
     returns
-    mul-t8
+    mul-t7
     returns-2
-    tangent-entry-requires-2
-    add-tangent-entry
-    tangent-entry-requires-3
+    cast-tangent-entries
+    tangent-entries-requires
     part-requires
     returns-3
     add-part
-    add-tangent-entry-2
-    tangent-entry-requires-4
     part-requires-2
     returns-4)

@@ -1,0 +1,27 @@
+-- The entry at a seat of the lent table is the definition's; past its end it is 0. Assumes nothing.
+use borrow.Author.Needs.{needs}
+use mathlib.Core.List.{List}
+use mathlib.Core.Path.{ap, sym}
+use Prim.Native.Nat.{ℕ}
+use native.Mathlib.Omega.{arith}
+use lib.ListN.{getD}
+use Rattle.law.specs.Entry.{tangentEntry}
+use Rattle.law.proofs.Rules.{tangent-past}
+use Rattle.tables.proofs.tangent_in.Statement.{statement}
+use Rattle.tables.proofs.tangent_in.Tie as tie
+
+mul-result : tie.Need-mul-result
+mul-result c = search needs
+
+element-copy-out-result : tie.Need-element-copy-out-result
+element-copy-out-result c = search needs
+
+returns : tie.Need-returns
+unfolding tangentEntry
+returns c = ap (λ (l : List ℕ). getD l (c .before .before .args .m) 0) (c .before .before .pre)
+
+returns-2 : tie.Need-returns-2
+returns-2 c = sym (tangent-past (c .before .args .m) (omega arith))
+
+pub tangent-in-spec : {M : Type 1} → statement M
+tangent-in-spec = tie.close (tie.spec mul-result element-copy-out-result returns returns-2)
