@@ -18,3 +18,4 @@ pub mod ReaderStays
 pub mod ReaderParts
 pub mod SeekFinds
 pub mod BookAgain
+pub mod ReturnTrips
