@@ -1,5 +1,7 @@
 /* The calls of libbhromilun.a (x86-64 Linux, System V). Each answers 0, or the number of its refusal,
    and stores the rest through its last pointers; what a refusal does not store stays as it was.
+   The caller sees to it that no pointer is null, that a buffer is as long as its length says, and that
+   no two pointers of one call lead to the same place.
 
    N is the number of years from 1684, -2,000 to 2,000. Day 0 follows the mean winter solstice's day.
    Angles are in units, 60,000,000 to one second of arc; minutes are those of the day, 0 to 1,439.
