@@ -1,3 +1,4 @@
 pub mod Said
+pub mod Tables
 pub mod Walks
 pub mod Records

@@ -1,4 +1,5 @@
-// The equation of centre, document 01's steps 1 to 5.
+// The equation of centre, document 01's steps 1 to 5. Both tables are lent from above: a constant array is laid out wherever
+// it is read, and a call does that once, not at each equation.
 use crate::constants::CIRCLE;
 use crate::constants::EPICYCLES;
 use crate::constants::HALF;
@@ -12,15 +13,14 @@ ghost use mathlib.Core.Path.{_≡_};
 ghost use Prim.Native.Nat.{_+_, _*_, _-_, _/_, _≤_, _<_, _^_};
 ghost use Rattle.law.specs.Round.{halfUp};
 ghost use Rattle.law.specs.Document.{minute, tenMinutes, quarter, half, circle, radius, inCircle, sine, epicycles, equationAnswer};
-ghost use Rattle.law.specs.Entry.{sineEntry};
+ghost use Rattle.law.specs.Sines.{sines as sineTable};
+ghost use Rattle.law.specs.Tangents.{tangents as tangentTable};
 ghost use Rattle.law.specs.Working.{heightOf, baseOf, tangentOf, angleAnswer, sizeAnswer};
 ghost use Rattle.units.specs.Said.{saidNumber, saidSigned};
 ghost use Rattle.sun.specs.Said.{numberUpTo};
+ghost use Rattle.sun.specs.Tables.{Laid};
 
 const TEN_MINUTES: u64 = 10 * MINUTE;
-
-// The table's entry at 130 minutes.
-const LAST_TANGENT: u64 = 378_335;
 
 // n / d, half or more rounded up.
 pub(crate) fn half_up(n: u64, d: u64) -> u64
@@ -42,14 +42,16 @@ fn in_circle(z: i64) -> u64
 }
 
 // The sine of an arc up to a quarter circle, from the entries below and above it.
-fn sine_of(x: u64, below: u64, above: u64) -> u64
-    requires { ⌜ (x ≤ quarter) × (below ≡ sineEntry (x / tenMinutes)) × (above ≡ sineEntry (x / tenMinutes + 1)) ⌝ }
+fn sine_of(x: u64, sines: &[u64; 541]) -> u64
+    requires { ⌜ (x ≤ quarter) × (now sines ≡ sineTable) ⌝ }
     ensures { λ r. ⌜ (r ≡ sine x) × (r ≤ 10_000_000) ⌝ }
 {
-    if x / TEN_MINUTES == 540 {
+    let k = (x / TEN_MINUTES) as usize;
+    let below = sines[k];
+    if k == 540 {
         return below;
     }
-    below + (above - below) * (x % TEN_MINUTES) / TEN_MINUTES
+    below + (sines[k + 1] - below) * (x % TEN_MINUTES) / TEN_MINUTES
 }
 
 // Step 1, of the sine or the cosine.
@@ -66,50 +68,48 @@ struct Legs {
 }
 
 // Of an arc from the perigee or the apogee, up to a quarter circle.
-fn legs_at(x: u64) -> Legs
-    requires { ⌜ x ≤ quarter ⌝ }
+fn legs_at(x: u64, sines: &[u64; 541]) -> Legs
+    requires { ⌜ (x ≤ quarter) × (now sines ≡ sineTable) ⌝ }
     ensures { λ r. ⌜ (r .height ≡ heightOf epicycles x) × (r .base ≡ baseOf epicycles x) × (r .height ≤ 179_208) × (r .base ≤ 179_208) ⌝ }
 {
-    let y = QUARTER - x;
-    let entries = tables::sine_entries((x / TEN_MINUTES) as u32, (y / TEN_MINUTES) as u32);
-    let sine = sine_of(x, entries.below, entries.above);
-    let cosine = sine_of(y, entries.other_below, entries.other_above);
     Legs {
-        height: leg(sine),
-        base: leg(cosine),
+        height: leg(sine_of(x, sines)),
+        base: leg(sine_of(QUARTER - x, sines)),
     }
 }
 
 // Steps 2 and 3: the arc from the perigee, up to a half circle.
-fn tangent(u: u64) -> u64
-    requires { ⌜ u ≤ half ⌝ }
+fn tangent(u: u64, sines: &[u64; 541]) -> u64
+    requires { ⌜ (u ≤ half) × (now sines ≡ sineTable) ⌝ }
     ensures { λ r. ⌜ r ≡ tangentOf epicycles u ⌝ }
 {
     if u <= QUARTER {
-        let near = legs_at(u);
+        let near = legs_at(u, sines);
         return half_up(2 * near.height * RADIUS, RADIUS - near.base);
     }
-    let far = legs_at(HALF - u);
+    let far = legs_at(HALF - u, sines);
     half_up(2 * far.height * RADIUS, RADIUS + far.base)
 }
 
 // Step 4. Steps of 2,908 to 2,914 put the minute at t / 2,914 or one further.
-fn angle_of(t: u64) -> Number
+fn angle_of(t: u64, tangents: &[u64; 131]) -> Number
+    requires { ⌜ now tangents ≡ tangentTable ⌝ }
     ensures { λ r. ⌜ (saidNumber r ≡ angleAnswer t) × numberUpTo 468_000_000_000 r ⌝ }
 {
-    if LAST_TANGENT < t {
+    let last = tangents[130];
+    if last < t {
         return Number::Refused(Refusal::TangentAbove);
     }
-    if t == LAST_TANGENT {
+    if t == last {
         return Number::Is(130 * MINUTE);
     }
     let m = t / 2_914;
-    let entries = tables::tangent_entries(m as u32);
-    let above = entries.above;
+    let k = m as usize;
+    let above = tangents[k + 1];
     if t < above {
-        return Number::Is(part(t, m, entries.below, above));
+        return Number::Is(part(t, m, tangents[k], above));
     }
-    Number::Is(part(t, m + 1, above, entries.next))
+    Number::Is(part(t, m + 1, above, tangents[k + 2]))
 }
 
 // The minute m and the proportional part of it, between the entries below and above t.
@@ -121,14 +121,14 @@ fn part(t: u64, m: u64, below: u64, above: u64) -> u64
 }
 
 // The size of the equation at an anomaly in the circle.
-pub(crate) fn size_at(a: u64) -> Number
-    requires { ⌜ a < circle ⌝ }
+pub(crate) fn size_at(a: u64, sines: &[u64; 541], tangents: &[u64; 131]) -> Number
+    requires { ⌜ (a < circle) × Laid (now sines) (now tangents) ⌝ }
     ensures { λ r. ⌜ (saidNumber r ≡ sizeAnswer epicycles a) × numberUpTo 468_000_000_000 r ⌝ }
 {
     if a <= HALF {
-        return angle_of(tangent(a));
+        return angle_of(tangent(a, sines), tangents);
     }
-    angle_of(tangent(CIRCLE - a))
+    angle_of(tangent(CIRCLE - a, sines), tangents)
 }
 
 // The equation at any anomaly, in units: step 5 adds it below the half circle and takes it away from there on.
@@ -136,7 +136,9 @@ pub fn equation_at(anomaly: i64) -> Signed
     ensures { λ r. ⌜ saidSigned r ≡ equationAnswer epicycles anomaly ⌝ }
 {
     let a = in_circle(anomaly);
-    match size_at(a) {
+    let sines = tables::sine_table();
+    let tangents = tables::tangent_table();
+    match size_at(a, &sines, &tangents) {
         Number::Is(size) => {
             if a < HALF {
                 Signed::Is(size as i64)

@@ -16,6 +16,7 @@ ghost use Rattle.law.specs.Document.{circle, epicycles, meanAnswer, trueAnswer,
 ghost use Rattle.law.specs.Working.{rootOf, anomalyOf, placeAnswer, midnightAnswer, liftedAnswer};
 ghost use Rattle.units.specs.Said.{saidNumber, saidSigned};
 ghost use Rattle.sun.specs.Said.{saidMidnight, numberUpTo};
+ghost use Rattle.sun.specs.Tables.{Laid};
 
 // What the anomaly gains in a day.
 const GAIN: u64 = DAILY - PERIGEE_DAILY;
@@ -41,13 +42,19 @@ fn anomaly(y: u64, root: u64, j: u64) -> u64
 }
 
 // The run-on place, lifted.
-pub(crate) fn lifted_place(y: u64, root: u64, j: u64) -> Number
-    requires { ⌜ (y ≤ 4_000) × (root ≡ rootOf y) × (j ≤ 374) ⌝ }
+pub(crate) fn lifted_place(
+    y: u64,
+    root: u64,
+    j: u64,
+    sines: &[u64; 541],
+    tangents: &[u64; 131],
+) -> Number
+    requires { ⌜ (y ≤ 4_000) × (root ≡ rootOf y) × (j ≤ 374) × Laid (now sines) (now tangents) ⌝ }
     ensures { λ r. ⌜ (saidNumber r ≡ placeAnswer epicycles y j) × numberUpTo 90_000_000_000_000 r ⌝ }
 {
     let a = anomaly(y, root, j);
     let mean = root + HEADROOM + j * DAILY;
-    match size_at(a) {
+    match size_at(a, sines, tangents) {
         Number::Is(size) => {
             if a < HALF {
                 Number::Is(mean + size)
@@ -82,7 +89,11 @@ fn lifted_at(n: i64, d: i64) -> Number
     ensures { λ r. ⌜ (saidNumber r ≡ liftedAnswer epicycles n d) × numberUpTo 90_000_000_000_000 r ⌝ }
 {
     match midnight_at(n, d) {
-        Midnight::Is(y, j) => lifted_place(y, root_of(y), j),
+        Midnight::Is(y, j) => {
+            let sines = tables::sine_table();
+            let tangents = tables::tangent_table();
+            lifted_place(y, root_of(y), j, &sines, &tangents)
+        }
         Midnight::Refused(refusal) => Number::Refused(refusal),
     }
 }

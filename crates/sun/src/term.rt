@@ -11,6 +11,7 @@ ghost use Prim.Native.Nat.{_≤_};
 ghost use Rattle.law.specs.Answer.{value};
 ghost use Rattle.law.specs.Document.{epicycles, inOrder, termAnswer, termsAnswer};
 ghost use Rattle.law.specs.Working.{rootOf, placeOf, findFrom, findOf, termOf};
+ghost use Rattle.sun.specs.Tables.{Laid};
 ghost use Rattle.sun.specs.Walks.{Underway};
 ghost use Rattle.sun.specs.Said.{saidFound, saidTerm, saidTerms, termsListed, heldTerms, findUpTo};
 
@@ -36,36 +37,56 @@ enum Found {
 
 // One midnight further each time. `before` is the place of the midnight before j, once one was visited.
 // The places rise and the mark lies within those left, so that they never run out short of it.
-fn walk(y: u64, root: u64, mark: u64, left: u64, j: u64, before: u64, seen: u64) -> Found
-    requires { ⌜ Underway y root mark left j before seen ⌝ }
+fn walk(
+    y: u64,
+    root: u64,
+    mark: u64,
+    left: u64,
+    j: u64,
+    before: u64,
+    seen: u64,
+    sines: &[u64; 541],
+    tangents: &[u64; 131],
+) -> Found
+    requires { ⌜ Underway y root mark left j before seen × Laid (now sines) (now tangents) ⌝ }
     ensures { λ r. ⌜ (saidFound r ≡ value (findFrom (placeOf epicycles y) mark left j seen)) × findUpTo 374 r ⌝ }
 {
-    match lifted_place(y, root, j) {
+    match lifted_place(y, root, j, sines, tangents) {
         Number::Is(place) => {
             if mark < place {
                 return Found::At(j - 1, 1_440 * (mark - before) / (place - before), seen + 1);
             }
-            walk(y, root, mark, left - 1, j + 1, place, seen + 1)
+            walk(
+                y,
+                root,
+                mark,
+                left - 1,
+                j + 1,
+                place,
+                seen + 1,
+                sines,
+                tangents,
+            )
         }
         Number::Refused(refusal) => Found::Refused(refusal),
     }
 }
 
 // From three days before the whole part of (mark - root) / daily motion, with eight midnights left.
-fn find(y: u64, root: u64, k: u64) -> Found
-    requires { ⌜ (y ≤ 4_000) × (root ≡ rootOf y) × (k ≤ 23) ⌝ }
+fn find(y: u64, root: u64, k: u64, sines: &[u64; 541], tangents: &[u64; 131]) -> Found
+    requires { ⌜ (y ≤ 4_000) × (root ≡ rootOf y) × (k ≤ 23) × Laid (now sines) (now tangents) ⌝ }
     ensures { λ r. ⌜ (saidFound r ≡ value (findOf epicycles y k)) × findUpTo 374 r ⌝ }
 {
     let mark = k * FIFTEEN_DEGREES;
     let start = (mark + 4 * DAILY - root) / DAILY - 3;
-    walk(y, root, mark + LIFT, 8, start, 0, 0)
+    walk(y, root, mark + LIFT, 8, start, 0, 0, sines, tangents)
 }
 
-fn term_in(y: u64, root: u64, k: u64) -> TermAnswer
-    requires { ⌜ (y ≤ 4_000) × (root ≡ rootOf y) × (k ≤ 23) ⌝ }
+fn term_in(y: u64, root: u64, k: u64, sines: &[u64; 541], tangents: &[u64; 131]) -> TermAnswer
+    requires { ⌜ (y ≤ 4_000) × (root ≡ rootOf y) × (k ≤ 23) × Laid (now sines) (now tangents) ⌝ }
     ensures { λ r. ⌜ saidTerm r ≡ value (termOf epicycles y k) ⌝ }
 {
-    match find(y, root, k) {
+    match find(y, root, k, sines, tangents) {
         Found::At(night, minute, count) => TermAnswer::Is(TermRecord {
             day: (night as i64) - 4,
             minute,
@@ -85,7 +106,9 @@ pub fn term_of(n: i64, k: u64) -> TermAnswer
     if 23 < k {
         return TermAnswer::Refused(Refusal::TermAbove);
     }
-    term_in(y, root_of(y), k)
+    let sines = tables::sine_table();
+    let tangents = tables::tangent_table();
+    term_in(y, root_of(y), k, &sines, &tangents)
 }
 
 pub enum Listed {
@@ -109,10 +132,12 @@ pub(crate) fn terms_in(y: u64, root: u64) -> YearTerms
     requires { ⌜ (y ≤ 4_000) × (root ≡ rootOf y) ⌝ }
     ensures { λ r. ⌜ (r .answer ≡ Listed.All) × (termsListed r ≡ inOrder (termOf epicycles y) 24) ⌝ }
 {
+    let sines = tables::sine_table();
+    let tangents = tables::tangent_table();
     let mut at = [BLANK; 24];
     let mut k: usize = 0;
     while k < 24 {
-        match term_in(y, root, k as u64) {
+        match term_in(y, root, k as u64, &sines, &tangents) {
             TermAnswer::Is(term) => {
                 at[k] = term;
             }

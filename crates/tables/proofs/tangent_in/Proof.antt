@@ -1,12 +1,9 @@
 -- The entry at a seat of the lent table is the definition's; past its end it is 0. Assumes nothing.
 use borrow.Author.Needs.{needs}
-use mathlib.Core.List.{List}
-use mathlib.Core.Path.{ap, sym}
-use Prim.Native.Nat.{ℕ}
+use mathlib.Core.Path.{sym}
 use native.Mathlib.Omega.{arith}
-use lib.ListN.{getD}
-use Rattle.law.specs.Entry.{tangentEntry}
 use Rattle.law.proofs.Rules.{tangent-past}
+use Rattle.tables.proofs.Entries.{tangent-read}
 use Rattle.tables.proofs.tangent_in.Statement.{statement}
 use Rattle.tables.proofs.tangent_in.Tie as tie
 
@@ -17,8 +14,7 @@ element-copy-out-result : tie.Need-element-copy-out-result
 element-copy-out-result c = search needs
 
 returns : tie.Need-returns
-unfolding tangentEntry
-returns c = ap (λ (l : List ℕ). getD l (c .before .before .args .m) 0) (c .before .before .pre)
+returns c = tangent-read (c .before .before .pre) (c .before .before .args .m)
 
 returns-2 : tie.Need-returns-2
 returns-2 c = sym (tangent-past (c .before .args .m) (omega arith))

@@ -1,79 +1,108 @@
 -- The minute is found at t / 2,914 or one further, by the tangent's step rule; refusal 5 exactly past the last entry. Assumes nothing.
-use mathlib.Core.Path.{_≡_, refl, ap, sym, _∙_}
-use Prim.Native.Nat.{_+_, _/_, _<_}
+use mathlib.Core.Path.{_≡_, ap, sym, _∙_}
+use Prim.Native.Nat.{ℕ, _+_, _/_, _<_}
 use native.Mathlib.Omega.{arith}
+use lib.ListN.{getD}
 use Rattle.law.specs.Answer.{value}
 use Rattle.law.specs.Entry.{lastTangent, tangentEntry}
-use Rattle.law.specs.Tangents.{tangents}
 use Rattle.law.proofs.Rules.{tangent-range}
 use Rattle.law.proofs.Angles.{Seat, seat, angle-refused, angle-last, angle-inside}
+use Rattle.tables.proofs.Entries.{tangent-read}
 use borrow.Author.Needs.{needs}
 use Rattle.sun.proofs.equation.angle_of.Statement.{statement}
 use Rattle.sun.proofs.equation.angle_of.Tie as tie
 
--- the code's last tangent is the table's
-last-is : tangentEntry lastTangent ≡ 378_335
-unfolding tangentEntry tangents
-last-is = refl
+abbrev entry : tie.Start → ℕ → ℕ
+entry c m = getD (c .args .tangents .now) m 0
+
+read : (c : tie.Start) (m : ℕ) → entry c m ≡ tangentEntry m
+read c m = tangent-read (c .pre) m
 
 -- below the last entry
-seated : (c : tie.Else2) → Seat (c .before .before .args .t) (c .before .before .args .t / 2_914)
-seated c = seat (c .before .before .args .t) (omega (arith, last-is))
+seated : (c : tie.Else2) → Seat (c .before .before .before .args .t) (c .before .before .before .args .t / 2_914)
+seated c = let s = c .before .before .before in seat (s .args .t) (omega (arith, read s lastTangent))
 
 -- one further
-further : (c : tie.Else3) → (c .before .before .before .before .args .t / 2_914 + 1 < lastTangent)
-    × (c .before .before .before .before .args .t < tangentEntry (c .before .before .before .before .args .t / 2_914 + 2))
-further c = seated (c .before .before) .next (omega (arith, c .before .tangent-entries .ensures .1))
+further : (c : tie.Else3) → (c .before .before .before .before .before .args .t / 2_914 + 1 < lastTangent)
+    × (c .before .before .before .before .before .args .t < tangentEntry (c .before .before .before .before .before .args .t / 2_914 + 2))
+further c =
+    let s = c .before .before .before .before .before in
+    seated (c .before .before) .next (omega (arith, read s (s .args .t / 2_914 + 1)))
+
+element-copy-out-last : tie.Need-element-copy-out-last
+element-copy-out-last c = search needs
 
 returns : tie.Need-returns
-returns c = (angle-refused (c .before .args .t) (omega (arith, last-is)), tt)
+returns c = let s = c .before .before in (angle-refused (s .args .t) (omega (arith, read s lastTangent)), tt)
 
-mul-t7 : tie.Need-mul-t7
-mul-t7 c = search needs
+mul-t12 : tie.Need-mul-t12
+mul-t12 c = search needs
 
 returns-2 : tie.Need-returns-2
-returns-2 c = (angle-last (c .before .before .args .t) (omega (arith, last-is)), omega arith)
+returns-2 c = let s = c .before .before .before in (angle-last (s .args .t) (omega (arith, read s lastTangent)), omega arith)
 
-cast-tangent-entries : tie.Need-cast-tangent-entries
-cast-tangent-entries c = search needs
+add-above : tie.Need-add-above
+add-above c = search needs
 
-tangent-entries-requires : tie.Need-tangent-entries-requires
-tangent-entries-requires c κs = search needs
+mul-above : tie.Need-mul-above
+mul-above c = search needs
+
+element-copy-out-above : tie.Need-element-copy-out-above
+element-copy-out-above c = let s = seated c in search needs
+
+mul-part : tie.Need-mul-part
+mul-part c = search needs
+
+element-copy-out-part : tie.Need-element-copy-out-part
+element-copy-out-part c = let s = seated (c .before .before) in search needs
 
 part-requires : tie.Need-part-requires
 part-requires c κs =
-    let s = seated (c .before .before) in
-    let e = c .before .tangent-entries .ensures in
-    (s .small, omega (arith, e .0, s .reached), search needs, omega (arith, e .1, tangent-range (c .before .before .before .before .args .t / 2_914 + 1) (omega (arith, s .small))))
+    let s = c .before .before .before .before .before .before in
+    let m = s .args .t / 2_914 in
+    let here = seated (c .before .before .before) in
+    (here .small, omega (arith, read s m, here .reached), search needs, omega (arith, read s (m + 1), tangent-range (m + 1) (omega (arith, here .small))))
 
 returns-3 : tie.Need-returns-3
 returns-3 c =
-    let t = c .before .before .before .before .before .args .t in
-    let s = seated (c .before .before .before) in
-    let n = c .before .before .tangent-entries in (
+    let s = c .before .before .before .before .before .before .before in
+    let t = s .args .t in
+    let m = t / 2_914 in
+    let here = seated (c .before .before .before .before) in (
       ap value (c .part .ensures .0)
-          ∙ angle-inside t (t / 2_914) (n .result .below) (n .result .above) (s .small) (n .ensures .0) (n .ensures .1) (omega (arith, n .ensures .0, s .reached)) (search needs),
+          ∙ angle-inside t m (entry s m) (entry s (m + 1)) (here .small) (read s m) (read s (m + 1)) (omega (arith, read s m, here .reached)) (search needs),
       c .part .ensures .1,
     )
 
 add-part : tie.Need-add-part
 add-part c = search needs
 
+add-part-2 : tie.Need-add-part-2
+add-part-2 c = search needs
+
+mul-part-2 : tie.Need-mul-part-2
+mul-part-2 c = search needs
+
+element-copy-out-part-2 : tie.Need-element-copy-out-part-2
+element-copy-out-part-2 c = let f = further c in search needs
+
 part-requires-2 : tie.Need-part-requires-2
 part-requires-2 c κs =
-    let f = further c in
-    let e = c .before .tangent-entries .ensures in
-    (f .0, search needs, omega (arith, e .2, f .1), omega (arith, e .2, tangent-range (c .before .before .before .before .args .t / 2_914 + 2) (omega (arith, f .0))))
+    let s = c .before .before .before .before .before .before in
+    let m = s .args .t / 2_914 in
+    let f = further (c .before) in
+    (f .0, search needs, omega (arith, read s (m + 2), f .1), omega (arith, read s (m + 2), tangent-range (m + 2) (omega (arith, f .0))))
 
 returns-4 : tie.Need-returns-4
 returns-4 c =
-    let t = c .before .before .before .before .before .args .t in
-    let f = further (c .before) in
-    let n = c .before .before .tangent-entries in
-    let e : t / 2_914 + 1 + 1 ≡ t / 2_914 + 2 = omega arith in (
+    let s = c .before .before .before .before .before .before .before in
+    let t = s .args .t in
+    let m = t / 2_914 in
+    let f = further (c .before .before) in
+    let e : m + 1 + 1 ≡ m + 2 = omega arith in (
       ap value (c .part2 .ensures .0)
-          ∙ angle-inside t (t / 2_914 + 1) (n .result .above) (n .result .next) (f .0) (n .ensures .1) (n .ensures .2 ∙ ap tangentEntry (sym e))
-          (search needs) (omega (arith, n .ensures .2, f .1)),
+          ∙ angle-inside t (m + 1) (entry s (m + 1)) (entry s (m + 2)) (f .0) (read s (m + 1)) (read s (m + 2) ∙ ap tangentEntry (sym e))
+          (search needs) (omega (arith, read s (m + 2), f .1)),
       c .part2 .ensures .1,
     )
 
@@ -81,13 +110,20 @@ pub angle-of-spec : {M : Type 1} → statement M
 angle-of-spec =
     tie.close
     (tie.spec
+    element-copy-out-last
     returns
-    mul-t7
+    mul-t12
     returns-2
-    cast-tangent-entries
-    tangent-entries-requires
+    add-above
+    mul-above
+    element-copy-out-above
+    mul-part
+    element-copy-out-part
     part-requires
     returns-3
     add-part
+    add-part-2
+    mul-part-2
+    element-copy-out-part-2
     part-requires-2
     returns-4)

@@ -10,53 +10,37 @@ use borrow.Author.Needs.{needs}
 use Rattle.sun.proofs.equation.legs_at.Statement.{statement}
 use Rattle.sun.proofs.equation.legs_at.Tie as tie
 
-height-is : (c : tie.After-leg2) → c .before .leg .result ≡ heightOf epicycles (c .before .before .before .before .before .args .x)
+height-is : (c : tie.After-leg2) → c .before .before .leg .result ≡ heightOf epicycles (c .before .before .before .before .args .x)
 unfolding heightOf
-height-is c = c .before .leg .ensures ∙ ap (λ s. halfUp (epicycles * s) radius) (c .before .before .before .sine-of .ensures .0)
+height-is c = c .before .before .leg .ensures ∙ ap (λ s. halfUp (epicycles * s) radius) (c .before .before .before .sine-of .ensures .0)
 
-base-is : (c : tie.After-leg2) → c .leg2 .result ≡ baseOf epicycles (c .before .before .before .before .before .args .x)
+base-is : (c : tie.After-leg2) → c .leg2 .result ≡ baseOf epicycles (c .before .before .before .before .args .x)
 unfolding baseOf cosine
-base-is c = c .leg2 .ensures ∙ ap (λ s. halfUp (epicycles * s) radius) (c .before .before .sine-of2 .ensures .0)
-
-sub-y : tie.Need-sub-y
-sub-y c = search needs
-
-cast-sine-entries : tie.Need-cast-sine-entries
-cast-sine-entries c = search needs
-
-cast-sine-entries-2 : tie.Need-cast-sine-entries-2
-cast-sine-entries-2 c = search needs
-
-sine-entries-requires : tie.Need-sine-entries-requires
-sine-entries-requires c κs = search needs
+base-is c = c .leg2 .ensures ∙ ap (λ s. halfUp (epicycles * s) radius) (c .before .sine-of2 .ensures .0)
 
 sine-of-requires : tie.Need-sine-of-requires
 sine-of-requires c κs = search needs
 
-sine-of-requires-2 : tie.Need-sine-of-requires-2
-sine-of-requires-2 c κs = search needs
-
 leg-requires : tie.Need-leg-requires
 leg-requires c κs = search needs
+
+sub-sine-of : tie.Need-sub-sine-of
+sub-sine-of c = search needs
+
+sine-of-requires-2 : tie.Need-sine-of-requires-2
+sine-of-requires-2 c κs = search needs
 
 leg-requires-2 : tie.Need-leg-requires-2
 leg-requires-2 c κs = search needs
 
 returns : tie.Need-returns
 returns c =
-    let s = c .before .before .before .before .before in
-    (height-is c, base-is c, omega (arith, height-is c, height-le epicycles (omega arith) (s .args .x) (s .pre)), omega (arith, base-is c, base-le epicycles (omega arith) (s .args .x) (s .pre)))
+    let s = c .before .before .before .before in (
+      height-is c,
+      base-is c,
+      omega (arith, height-is c, height-le epicycles (omega arith) (s .args .x) (s .pre .0)),
+      omega (arith, base-is c, base-le epicycles (omega arith) (s .args .x) (s .pre .0)),
+    )
 
 pub legs-at-spec : {M : Type 1} → statement M
-legs-at-spec =
-    tie.close
-    (tie.spec
-    sub-y
-    cast-sine-entries
-    cast-sine-entries-2
-    sine-entries-requires
-    sine-of-requires
-    sine-of-requires-2
-    leg-requires
-    leg-requires-2
-    returns)
+legs-at-spec = tie.close (tie.spec sine-of-requires leg-requires sub-sine-of sine-of-requires-2 leg-requires-2 returns)

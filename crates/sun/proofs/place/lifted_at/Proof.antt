@@ -23,20 +23,27 @@ midnight-at-requires c κs = search needs
 enum-known-y : tie.Need-enum-known-y
 enum-known-y c = search needs
 
+sine-table-requires : tie.Need-sine-table-requires
+sine-table-requires c κs = search needs
+
+tangent-table-requires : tie.Need-tangent-table-requires
+tangent-table-requires c κs = search needs
+
 root-of-requires : tie.Need-root-of-requires
-root-of-requires c κs = in-range (c .before) .0 .most
+root-of-requires c κs = in-range (c .before .before .before) .0 .most
 
 lifted-place-requires : tie.Need-lifted-place-requires
 lifted-place-requires c κs =
-    let i = in-range (c .before .before) in (i .0 .most, c .root-of .ensures .0, i .1 .most)
+    let i = in-range (c .before .before .before .before .before .before) in
+    (i .0 .most, c .before .before .root-of .ensures .0, i .1 .most, (c .before .before .before .before .sine-table .ensures, c .before .before .before .tangent-table .ensures))
 
 enum-known-refusal : tie.Need-enum-known-refusal
 enum-known-refusal c = search needs
 
 returns : tie.Need-returns
 returns c =
-    let start = c .before .before .before .before .before .before in
-    let i = in-range (c .before .before .before) in
+    let start = c .before .before .before .before .before .before .before .before .before .before in
+    let i = in-range (c .before .before .before .before .before .before .before) in
     (c .lifted-place .ensures .0 ∙ lifted-place (start .args .n) (start .args .d) (i .0) (i .1) epicycles, c .lifted-place .ensures .1)
 
 returns-2 : tie.Need-returns-2
@@ -52,4 +59,4 @@ returns-2 c =
 pub lifted-at-spec : {M : Type 1} → statement M
 lifted-at-spec =
     tie.close
-    (tie.spec midnight-at-requires enum-known-y root-of-requires lifted-place-requires enum-known-refusal returns returns-2)
+    (tie.spec midnight-at-requires enum-known-y sine-table-requires tangent-table-requires root-of-requires lifted-place-requires enum-known-refusal returns returns-2)

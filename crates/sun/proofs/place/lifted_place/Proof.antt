@@ -42,11 +42,11 @@ size-at-requires c κs = search needs
 enum-known-size : tie.Need-enum-known-size
 enum-known-size c = search needs
 
-add-t14 : tie.Need-add-t14
-add-t14 c = let l = small (c .before .before .before .before .before .before) in let m = size-most (c .before .before) in search needs
+add-t16 : tie.Need-add-t16
+add-t16 c = let l = small (c .before .before .before .before .before .before) in let m = size-most (c .before .before) in search needs
 
-sub-t15 : tie.Need-sub-t15
-sub-t15 c = let m = size-most (c .before .before) in search needs
+sub-t17 : tie.Need-sub-t17
+sub-t17 c = let m = size-most (c .before .before) in search needs
 
 enum-known-refusal : tie.Need-enum-known-refusal
 enum-known-refusal c = search needs
@@ -88,8 +88,8 @@ lifted-place-spec =
     add-mean-2
     size-at-requires
     enum-known-size
-    add-t14
-    sub-t15
+    add-t16
+    sub-t17
     enum-known-refusal
     returns
     returns-2

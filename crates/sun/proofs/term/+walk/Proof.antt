@@ -18,14 +18,14 @@ use Rattle.sun.proofs.place.lifted_place.Reads as lifted-place-reads
 use Rattle.sun.proofs.term.+walk.{statement}
 use Rattle.sun.proofs.term.+walk.Tie.{close}
 
-abbrev μ-walk : Measures 0 walk-kinds.ps ℕ
+abbrev μ-walk : Measures 2 walk-kinds.ps ℕ
 μ-walk κs a = a .1 .1 .1 .0
 
-abbrev walk-at : ℕ → In 0 walk-kinds.ps
-walk-at t = and 0 walk-kinds.ps (is 0 walk-kinds.ps μ-walk t) walk.Pre
+abbrev walk-at : ℕ → In 2 walk-kinds.ps
+walk-at t = and 2 walk-kinds.ps (is 2 walk-kinds.ps μ-walk t) walk.Pre
 
-abbrev walk-below : ℕ → In 0 walk-kinds.ps
-walk-below t = and 0 walk-kinds.ps (falls 0 walk-kinds.ps _<_ μ-walk t) walk.Pre
+abbrev walk-below : ℕ → In 2 walk-kinds.ps
+walk-below t = and 2 walk-kinds.ps (falls 2 walk-kinds.ps _<_ μ-walk t) walk.Pre
 
 -- what `lifted_place` said: the place at j, and no refusal
 place-is : (t : ℕ) (c : walk-lts.After-place (lifted-place-reads.Asked, lifted-place-reads.Learnt, walk-below t, walk.Post) (walk-at t) walk.Post)
@@ -44,52 +44,52 @@ refused-never t c =
 past : (t : ℕ) (c : walk-lts.Then1 (lifted-place-reads.Asked, lifted-place-reads.Learnt, walk-below t, walk.Post) (walk-at t) walk.Post)
     → Here (c .before .before .before .before .before .args .y) (c .before .before .before .before .before .args .mark) (c .before .before .before .before .before .args .left)
     (c .before .before .before .before .before .args .j) (c .before .before .before .before .before .args .before) (c .before .before .before .before .before .args .seen)
-    (c .before .before .place .given .0 .0) (place-is t (c .before .before)) (c .before .before .before .before .before .pre .1 .some)
-    (c .before .before .before .before .before .pre .1 .behind) (c .before .before .before .before .before .pre .1 .known)
+    (c .before .before .place .given .0 .0) (place-is t (c .before .before)) (c .before .before .before .before .before .pre .1 .0 .some)
+    (c .before .before .before .before .before .pre .1 .0 .behind) (c .before .before .before .before .before .pre .1 .0 .known)
 past t c =
     let start = c .before .before .before .before .before in
     here (start .args .y) (start .args .mark) (start .args .left) (start .args .j) (start .args .before) (start .args .seen)
-    (c .before .before .place .given .0 .0) (place-is t (c .before .before)) (start .pre .1 .some) (start .pre .1 .behind) (start .pre .1 .known) (c .if1 .taken)
+    (c .before .before .place .given .0 .0) (place-is t (c .before .before)) (start .pre .1 .0 .some) (start .pre .1 .0 .behind) (start .pre .1 .0 .known) (c .if1 .taken)
 
 further : (t : ℕ) (c : walk-lts.Else1 (lifted-place-reads.Asked, lifted-place-reads.Learnt, walk-below t, walk.Post) (walk-at t) walk.Post)
     → On (c .before .before .before .before .before .args .y) (c .before .before .before .before .before .args .mark) (c .before .before .before .before .before .args .left)
     (c .before .before .before .before .before .args .j) (c .before .before .before .before .before .args .before) (c .before .before .before .before .before .args .seen)
-    (c .before .before .place .given .0 .0) (place-is t (c .before .before)) (c .before .before .before .before .before .pre .1 .some)
-    (c .before .before .before .before .before .pre .1 .behind) (c .before .before .before .before .before .pre .1 .known)
+    (c .before .before .place .given .0 .0) (place-is t (c .before .before)) (c .before .before .before .before .before .pre .1 .0 .some)
+    (c .before .before .before .before .before .pre .1 .0 .behind) (c .before .before .before .before .before .pre .1 .0 .known)
 further t c =
     let start = c .before .before .before .before .before in
     on (start .args .y) (start .args .mark) (start .args .left) (start .args .j) (start .args .before) (start .args .seen)
-    (c .before .before .place .given .0 .0) (place-is t (c .before .before)) (start .pre .1 .some) (start .pre .1 .behind) (start .pre .1 .known)
-    (start .pre .1 .reached) (c .if1 .left)
+    (c .before .before .place .given .0 .0) (place-is t (c .before .before)) (start .pre .1 .0 .some) (start .pre .1 .0 .behind) (start .pre .1 .0 .known)
+    (start .pre .1 .0 .reached) (c .if1 .left)
 
 walk-lifted-place-requires : (t : ℕ) → walk-lts.Need-lifted-place-requires (lifted-place-reads.Asked, lifted-place-reads.Learnt, walk-below t, walk.Post) (walk-at t) walk.Post
-walk-lifted-place-requires t c κs = (c .pre .1 .year, c .pre .1 .rooted, omega (arith, c .pre .1))
+walk-lifted-place-requires t c κs = (c .pre .1 .0 .year, c .pre .1 .0 .rooted, omega (arith, c .pre .1 .0), c .pre .1 .1)
 
 walk-enum-known-place : (t : ℕ) → walk-lts.Need-enum-known-place (lifted-place-reads.Asked, lifted-place-reads.Learnt, walk-below t, walk.Post) (walk-at t) walk.Post
 walk-enum-known-place t c = search needs
 
-walk-sub-t13 : (t : ℕ) → walk-lts.Need-sub-t13 (lifted-place-reads.Asked, lifted-place-reads.Learnt, walk-below t, walk.Post) (walk-at t) walk.Post
-walk-sub-t13 t c = past t c .first
-
-walk-sub-t14 : (t : ℕ) → walk-lts.Need-sub-t14 (lifted-place-reads.Asked, lifted-place-reads.Learnt, walk-below t, walk.Post) (walk-at t) walk.Post
-walk-sub-t14 t c = c .before .before .before .before .before .pre .1 .behind
-
-walk-mul-t15 : (t : ℕ) → walk-lts.Need-mul-t15 (lifted-place-reads.Asked, lifted-place-reads.Learnt, walk-below t, walk.Post) (walk-at t) walk.Post
-walk-mul-t15 t c = let h = past t c in record { fits = omega arith }
+walk-sub-t15 : (t : ℕ) → walk-lts.Need-sub-t15 (lifted-place-reads.Asked, lifted-place-reads.Learnt, walk-below t, walk.Post) (walk-at t) walk.Post
+walk-sub-t15 t c = past t c .first
 
 walk-sub-t16 : (t : ℕ) → walk-lts.Need-sub-t16 (lifted-place-reads.Asked, lifted-place-reads.Learnt, walk-below t, walk.Post) (walk-at t) walk.Post
-walk-sub-t16 t c = let h = past t c in omega arith
+walk-sub-t16 t c = c .before .before .before .before .before .pre .1 .0 .behind
 
-walk-div-t17 : (t : ℕ) → walk-lts.Need-div-t17 (lifted-place-reads.Asked, lifted-place-reads.Learnt, walk-below t, walk.Post) (walk-at t) walk.Post
-walk-div-t17 t c = let h = past t c in omega arith
+walk-mul-t17 : (t : ℕ) → walk-lts.Need-mul-t17 (lifted-place-reads.Asked, lifted-place-reads.Learnt, walk-below t, walk.Post) (walk-at t) walk.Post
+walk-mul-t17 t c = let h = past t c in record { fits = omega arith }
 
-walk-add-t18 : (t : ℕ) → walk-lts.Need-add-t18 (lifted-place-reads.Asked, lifted-place-reads.Learnt, walk-below t, walk.Post) (walk-at t) walk.Post
-walk-add-t18 t c = search needs
+walk-sub-t18 : (t : ℕ) → walk-lts.Need-sub-t18 (lifted-place-reads.Asked, lifted-place-reads.Learnt, walk-below t, walk.Post) (walk-at t) walk.Post
+walk-sub-t18 t c = let h = past t c in omega arith
+
+walk-div-t19 : (t : ℕ) → walk-lts.Need-div-t19 (lifted-place-reads.Asked, lifted-place-reads.Learnt, walk-below t, walk.Post) (walk-at t) walk.Post
+walk-div-t19 t c = let h = past t c in omega arith
+
+walk-add-t20 : (t : ℕ) → walk-lts.Need-add-t20 (lifted-place-reads.Asked, lifted-place-reads.Learnt, walk-below t, walk.Post) (walk-at t) walk.Post
+walk-add-t20 t c = search needs
 
 walk-returns : (t : ℕ) → walk-lts.Need-returns (lifted-place-reads.Asked, lifted-place-reads.Learnt, walk-below t, walk.Post) (walk-at t) walk.Post
 walk-returns t c =
     let start = c .before .before .before .before .before in
-    (ap value (past t c .is), omega (arith, start .pre .1))
+    (ap value (past t c .is), omega (arith, start .pre .1 .0))
 
 walk-sub-walk : (t : ℕ) → walk-lts.Need-sub-walk (lifted-place-reads.Asked, lifted-place-reads.Learnt, walk-below t, walk.Post) (walk-at t) walk.Post
 walk-sub-walk t c = omega (arith, further t c .more)
@@ -103,19 +103,22 @@ walk-add-walk-2 t c = omega arith
 walk-walk-requires : (t : ℕ) → walk-lts.Need-walk-requires (lifted-place-reads.Asked, lifted-place-reads.Learnt, walk-below t, walk.Post) (walk-at t) walk.Post
 walk-walk-requires t c κs =
     let start = c .before .before .before .before .before in
-    let u = start .pre .1 in
+    let u = start .pre .1 .0 in
     let f = further t c in (
       omega (arith, start .pre .0, u .some),
-      record {
-        year = u .year;
-        rooted = u .rooted;
-        some = omega (arith, f .more);
-        days = omega (arith, u .days, f .more);
-        eight = omega (arith, u .eight, f .more);
-        reached = f .past;
-        behind = c .if1 .left;
-        known = f .own;
-      },
+      (
+        record {
+          year = u .year;
+          rooted = u .rooted;
+          some = omega (arith, f .more);
+          days = omega (arith, u .days, f .more);
+          eight = omega (arith, u .eight, f .more);
+          reached = f .past;
+          behind = c .if1 .left;
+          known = f .own;
+        },
+        start .pre .1 .1,
+      ),
     )
 
 walk-enum-known-refusal : (t : ℕ) → walk-lts.Need-enum-known-refusal (lifted-place-reads.Asked, lifted-place-reads.Learnt, walk-below t, walk.Post) (walk-at t) walk.Post
@@ -133,12 +136,12 @@ pub +walk-spec : {M : Type 1} → statement M
     walk.Post
     (walk-lifted-place-requires t)
     (walk-enum-known-place t)
-    (walk-sub-t13 t)
-    (walk-sub-t14 t)
-    (walk-mul-t15 t)
+    (walk-sub-t15 t)
     (walk-sub-t16 t)
-    (walk-div-t17 t)
-    (walk-add-t18 t)
+    (walk-mul-t17 t)
+    (walk-sub-t18 t)
+    (walk-div-t19 t)
+    (walk-add-t20 t)
     (walk-returns t)
     (walk-sub-walk t)
     (walk-add-walk t)

@@ -33,17 +33,19 @@ at-start c = begins (c .args .y) (c .args .k) (c .args .root) (c .pre .2) (c .pr
 
 walk-requires : tie.Need-walk-requires
 walk-requires c κs =
-    let b = at-start c in
-    record {
-      year = c .pre .0;
-      rooted = c .pre .1;
-      some = omega arith;
-      days = b .days;
-      eight = omega arith;
-      reached = b .reached;
-      behind = omega arith;
-      known = b .known;
-    }
+    let b = at-start c in (
+      record {
+        year = c .pre .0;
+        rooted = c .pre .1;
+        some = omega arith;
+        days = b .days;
+        eight = omega arith;
+        reached = b .reached;
+        behind = omega arith;
+        known = b .known;
+      },
+      c .pre .3,
+    )
 
 returns : tie.Need-returns
 returns c = (c .walk .ensures .0 ∙ ap value (at-start (c .before) .is), c .walk .ensures .1)

@@ -32,14 +32,14 @@ find-requires c κs = search needs
 enum-known-night : tie.Need-enum-known-night
 enum-known-night c = search needs
 
-cast-t10 : tie.Need-cast-t10
-cast-t10 c = record { sfits = omega (arith, night-most (c .before)) }
+cast-t12 : tie.Need-cast-t12
+cast-t12 c = record { sfits = omega (arith, night-most (c .before)) }
 
 down : (c : tie.After-known-told) → Lowered w64 4 (c .before .night .given .0 .0)
 down c = lowered w64 4 (c .before .night .given .0 .0) (omega arith) (omega (arith, night-most (c .before)))
 
-sub-t11 : tie.Need-sub-t11
-sub-t11 c = down c .sum
+sub-t13 : tie.Need-sub-t13
+sub-t13 c = down c .sum
 
 enum-known-refusal : tie.Need-enum-known-refusal
 enum-known-refusal c = search needs
@@ -57,4 +57,4 @@ returns-2 c =
     absurd (never (subst (λ r. saidFound r ≡ value (findOf epicycles (start .args .y) (start .args .k))) (c .before .refusal .given .1) (c .before .before .before .find .ensures .0)))
 
 pub term-in-spec : {M : Type 1} → statement M
-term-in-spec = tie.close (tie.spec find-requires enum-known-night cast-t10 sub-t11 enum-known-refusal returns returns-2)
+term-in-spec = tie.close (tie.spec find-requires enum-known-night cast-t12 sub-t13 enum-known-refusal returns returns-2)

@@ -34,19 +34,26 @@ returns-2 : tie.Need-returns-2
 unfolding termAnswer
 returns-2 c = rw (in-range (c .before .before) .test, lt-yes (c .if1 .taken)) refl
 
+sine-table-requires : tie.Need-sine-table-requires
+sine-table-requires c κs = search needs
+
+tangent-table-requires : tie.Need-tangent-table-requires
+tangent-table-requires c κs = search needs
+
 root-of-requires : tie.Need-root-of-requires
-root-of-requires c κs = in-range (c .before .before) .most
+root-of-requires c κs = in-range (c .before .before .before .before) .most
 
 term-in-requires : tie.Need-term-in-requires
-term-in-requires c κs = (in-range (c .before .before .before) .most, c .root-of .ensures .0, c .before .if1 .left)
+term-in-requires c κs =
+    (in-range (c .before .before .before .before .before .before .before) .most, c .before .before .root-of .ensures .0, c .before .before .before .before .before .if1 .left, (c .before .before .before .before .sine-table .ensures, c .before .before .before .tangent-table .ensures))
 
 returns-3 : tie.Need-returns-3
 returns-3 c =
-    let start = c .before .before .before .before .before .before .before in
+    let start = c .before .before .before .before .before .before .before .before .before .before .before in
     c .term-in .ensures
-    ∙ term-value epicycles (omega arith) (start .args .n) (in-range (c .before .before .before .before)) (start .args .k) (omega arith)
+    ∙ term-value epicycles (omega arith) (start .args .n) (in-range (c .before .before .before .before .before .before .before .before)) (start .args .k) (omega arith)
 
 pub term-of-spec : {M : Type 1} → statement M
 term-of-spec =
     tie.close
-    (tie.spec year-index-requires enum-known-y enum-told returns returns-2 root-of-requires term-in-requires returns-3)
+    (tie.spec year-index-requires enum-known-y enum-told returns returns-2 sine-table-requires tangent-table-requires root-of-requires term-in-requires returns-3)

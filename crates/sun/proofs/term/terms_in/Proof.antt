@@ -19,16 +19,24 @@ abbrev blank : TermRecord
 blank = record { day = pos 0; minute = 0; count = 0 }
 
 abbrev Inv-loop : tie.InvT-loop
-Inv-loop y root at₀ k₀ at k = (k ≤ 24) × (length at ≡ 24) × Filled valuesOf (termOf epicycles y) blank at k
+Inv-loop y root sines tangents at₀ k₀ at k = (k ≤ 24) × (length at ≡ 24) × Filled valuesOf (termOf epicycles y) blank at k
 
 abbrev μ-loop : tie.MeasureT-loop
-μ-loop y root at₀ k₀ at k = 24 - k
+μ-loop y root sines tangents at₀ k₀ at k = 24 - k
+
+sine-table-requires : tie.Need-sine-table-requires Inv-loop μ-loop
+sine-table-requires c κs = search needs
+
+tangent-table-requires : tie.Need-tangent-table-requires Inv-loop μ-loop
+tangent-table-requires c κs = search needs
 
 loop-holds : tie.Need-loop-holds Inv-loop μ-loop
-loop-holds c = (omega arith, refl, filled-none valuesOf (termOf epicycles (c .args .y)) blank (replicate 24 blank))
+loop-holds c = (omega arith, refl, filled-none valuesOf (termOf epicycles (c .before .before .args .y)) blank (replicate 24 blank))
 
 term-in-requires : tie.Need-term-in-requires Inv-loop μ-loop
-term-in-requires c κs = (c .before .before .pre .0, c .before .before .pre .1, omega arith)
+term-in-requires c κs =
+    let start = c .before .before .before .before .before .before in
+    (start .pre .0, start .pre .1, omega arith, (c .before .before .before .before .before .sine-table .ensures, c .before .before .before .before .tangent-table .ensures))
 
 enum-known-term : tie.Need-enum-known-term Inv-loop μ-loop
 enum-known-term c = search needs
@@ -44,8 +52,8 @@ enum-known-refusal c = search needs
 
 returns : tie.Need-returns Inv-loop μ-loop
 returns c =
-    let y = c .before .before .before .before .before .before .args .y in
-    let k = c .before .before .before .before .before .loop .k in
+    let y = c .before .before .before .before .before .before .before .before .before .before .args .y in
+    let k = c .before .before .before .before .before .before .before .loop .k in
     absurd
     (never (subst (λ r. saidTerm r ≡ value (termOf epicycles y k)) (c .before .refusal .given .1) (c .before .before .before .term-in .ensures)))
 
@@ -57,8 +65,8 @@ loop-less c = search needs
 
 loop-again : tie.Need-loop-again Inv-loop μ-loop
 loop-again c =
-    let y = c .before .before .before .before .before .before .args .y in
-    let l = c .before .before .before .before .before .loop in
+    let y = c .before .before .before .before .before .before .before .before .before .before .args .y in
+    let l = c .before .before .before .before .before .before .before .loop in
     let term = c .before .term .given .0 .0 in (
       omega arith,
       length-set (l .at) (l .k) term ∙ l .inv .1,
@@ -68,7 +76,7 @@ loop-again c =
 
 returns-2 : tie.Need-returns-2 Inv-loop μ-loop
 returns-2 c =
-    let y = c .before .before .args .y in
+    let y = c .before .before .before .before .args .y in
     let l = c .before .loop in
     let e : l .k ≡ 24 = omega arith in
     (refl, filled-all valuesOf (termOf epicycles y) blank (l .at) 24 (l .inv .1) (subst (Filled valuesOf (termOf epicycles y) blank (l .at)) e (l .inv .2)))
@@ -79,6 +87,8 @@ terms-in-spec =
     (tie.spec
     Inv-loop
     μ-loop
+    sine-table-requires
+    tangent-table-requires
     loop-holds
     term-in-requires
     enum-known-term
