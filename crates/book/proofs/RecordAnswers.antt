@@ -32,13 +32,14 @@ term-size kind e = rw e
 -- ---- the answer, refusal by refusal
 
 module _ (b : List ℕ) (due : Due) where
-  pub refuse-8 : headSize b ≡ 0 → recordAnswer b due ≡ refused 8
-  unfolding recordAnswer
-  refuse-8 e = simp (eq-eqb _ _ e)
-
   pub refuse-7 : 0 < headSize b → length b < headSize b → recordAnswer b due ≡ refused 7
   unfolding recordAnswer
   refuse-7 p h = simp (ne-eqb (headSize b) 0 (λ e. omega arith), lt-ltb _ _ h)
+
+  -- where it is of another kind than the one due, only its kind and its length decide
+  pub other : outOfTurn b due ≡ true → refusing (eqb (headSize b) 0) 8 (refusing (ltb (length b) (headSize b)) 7 (refused 10)) ≡ recordAnswer b due
+  unfolding recordAnswer
+  other e = simp e
 
   module _ (p : 0 < headSize b) (h : headSize b ≤ length b) where
     pub refuse-10 : outOfTurn b due ≡ true → recordAnswer b due ≡ refused 10

@@ -4,7 +4,9 @@ use crate::bytes::wide;
 use units::Refusal;
 ghost use mathlib.Core.Path.{_≡_};
 ghost use Prim.Native.Nat.{_<_};
+ghost use lib.Dec.{eqb, ltb};
 ghost use lib.ListN.{length};
+ghost use Rattle.law.specs.Answer.{refused, refusing};
 ghost use Rattle.law.specs.Book.{aHead, aTerm, recordSize, recordAnswer};
 ghost use Rattle.book.specs.Said.{saidRecord};
 
@@ -26,21 +28,31 @@ pub(crate) fn record_size(kind: u8) -> usize
     }
 }
 
+// A record of another kind than the one due, with so many bytes left from its first on: 8, 7 or 10.
+fn other_kind(kind: u8, left: usize) -> RecordAnswer
+    ensures { λ r. ⌜ saidRecord r ≡ refusing (eqb (recordSize kind) 0) 8 (refusing (ltb left (recordSize kind)) 7 (refused 10)) ⌝ }
+{
+    let size = record_size(kind);
+    if size == 0 {
+        return RecordAnswer::Refused(Refusal::KindUnknown);
+    }
+    if left < size {
+        return RecordAnswer::Refused(Refusal::RecordCutOff);
+    }
+    RecordAnswer::Refused(Refusal::OutOfTurn)
+}
+
 // The record at the start of b, where a head is due whose N + 2,000 is at least so much.
 pub(crate) fn head_answer(b: &[u8], least: u64) -> RecordAnswer
     requires { ⌜ 0 < length (now b) ⌝ }
     ensures { λ r. ⌜ saidRecord r ≡ recordAnswer (now (b .entry)) (aHead least) ⌝ }
 {
     let kind = b[0];
-    let size = record_size(kind);
-    if size == 0 {
-        return RecordAnswer::Refused(Refusal::KindUnknown);
-    }
-    if b.len() < size {
-        return RecordAnswer::Refused(Refusal::RecordCutOff);
-    }
     if kind != 1 {
-        return RecordAnswer::Refused(Refusal::OutOfTurn);
+        return other_kind(kind, b.len());
+    }
+    if b.len() < 5 {
+        return RecordAnswer::Refused(Refusal::RecordCutOff);
     }
     let number = two_at(b, 1);
     if number < least {
@@ -64,15 +76,11 @@ pub(crate) fn term_answer(b: &[u8], k: u64) -> RecordAnswer
     ensures { λ r. ⌜ saidRecord r ≡ recordAnswer (now (b .entry)) (aTerm k) ⌝ }
 {
     let kind = b[0];
-    let size = record_size(kind);
-    if size == 0 {
-        return RecordAnswer::Refused(Refusal::KindUnknown);
-    }
-    if b.len() < size {
-        return RecordAnswer::Refused(Refusal::RecordCutOff);
-    }
     if kind != 2 {
-        return RecordAnswer::Refused(Refusal::OutOfTurn);
+        return other_kind(kind, b.len());
+    }
+    if b.len() < 6 {
+        return RecordAnswer::Refused(Refusal::RecordCutOff);
     }
     if wide(b[1]) != k {
         return RecordAnswer::Refused(Refusal::OutOfTurn);

@@ -48,15 +48,9 @@ unfolding tangentOf farOf
 tangent-far e u h b l p q = rw (le-no l, p, q) refl
 
 -- the size at an anomaly in the circle is the angle of the tangent at its arc
-size-from : (e a t : ℕ) → t ≡ tangentOf e (mirrored a) → angleAnswer t ≡ sizeAnswer e a
+pub size-from : (e a t : ℕ) → t ≡ tangentOf e (mirrored a) → angleAnswer t ≡ sizeAnswer e a
 unfolding sizeAnswer angleAnswer
 size-from e a t h = ap angleAnswer (h ∙ sym (tangent-is e a))
-
-pub size-low : (e a t : ℕ) → a ≤ half → t ≡ tangentOf e a → angleAnswer t ≡ sizeAnswer e a
-size-low e a t l h = size-from e a t (h ∙ ap (tangentOf e) (sym (mirrored-low a l)))
-
-pub size-high : (e a t : ℕ) → half < a → t ≡ tangentOf e (circle - a) → angleAnswer t ≡ sizeAnswer e a
-size-high e a t l h = size-from e a t (h ∙ ap (tangentOf e) (sym (mirrored-high a l)))
 
 -- the signed equation is what is added less what is taken away, and neither is above 130′
 pub equation-is : (e a : ℕ) → Is (equation e a) (added e a) (taken e a)

@@ -12,7 +12,7 @@ use units::Signed;
 ghost use mathlib.Core.Path.{_≡_};
 ghost use Prim.Native.Nat.{_+_, _*_, _-_, _/_, _≤_, _<_, _^_};
 ghost use Rattle.law.specs.Round.{halfUp};
-ghost use Rattle.law.specs.Document.{minute, tenMinutes, quarter, half, circle, radius, inCircle, sine, epicycles, equationAnswer};
+ghost use Rattle.law.specs.Document.{minute, tenMinutes, quarter, half, circle, radius, inCircle, mirrored as mirroredArc, sine, epicycles, equationAnswer};
 ghost use Rattle.law.specs.Sines.{sines as sineTable};
 ghost use Rattle.law.specs.Tangents.{tangents as tangentTable};
 ghost use Rattle.law.specs.Working.{heightOf, baseOf, tangentOf, angleAnswer, sizeAnswer};
@@ -120,15 +120,23 @@ fn part(t: u64, m: u64, below: u64, above: u64) -> u64
     m * MINUTE + (t - below) * MINUTE / (above - below)
 }
 
+// The arc from the perigee, the shorter way round.
+fn mirrored(a: u64) -> u64
+    requires { ⌜ a < circle ⌝ }
+    ensures { λ r. ⌜ (r ≡ mirroredArc a) × (r ≤ half) ⌝ }
+{
+    if a <= HALF {
+        return a;
+    }
+    CIRCLE - a
+}
+
 // The size of the equation at an anomaly in the circle.
 pub(crate) fn size_at(a: u64, sines: &[u64; 541], tangents: &[u64; 131]) -> Number
     requires { ⌜ (a < circle) × Laid (now sines) (now tangents) ⌝ }
     ensures { λ r. ⌜ (saidNumber r ≡ sizeAnswer epicycles a) × numberUpTo 468_000_000_000 r ⌝ }
 {
-    if a <= HALF {
-        return angle_of(tangent(a, sines), tangents);
-    }
-    angle_of(tangent(CIRCLE - a, sines), tangents)
+    angle_of(tangent(mirrored(a), sines), tangents)
 }
 
 // The equation at any anomaly, in units: step 5 adds it below the half circle and takes it away from there on.

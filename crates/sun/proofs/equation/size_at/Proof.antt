@@ -1,10 +1,14 @@
--- The anomaly is mirrored past the half circle, and the angle is that of its tangent. Assumes nothing.
-use mathlib.Core.Path.{_∙_}
+-- The angle is that of the tangent at the mirrored anomaly. Assumes nothing.
+use mathlib.Core.Path.{ap, _∙_}
 use borrow.Author.Needs.{needs}
 use Rattle.law.specs.Document.{epicycles}
-use Rattle.law.proofs.Bridge.{size-low, size-high}
+use Rattle.law.specs.Working.{tangentOf}
+use Rattle.law.proofs.Bridge.{size-from}
 use Rattle.sun.proofs.equation.size_at.Statement.{statement}
 use Rattle.sun.proofs.equation.size_at.Tie as tie
+
+mirrored-requires : tie.Need-mirrored-requires
+mirrored-requires c κs = search needs
 
 tangent-requires : tie.Need-tangent-requires
 tangent-requires c κs = search needs
@@ -13,26 +17,12 @@ angle-of-requires : tie.Need-angle-of-requires
 angle-of-requires c κs = search needs
 
 returns : tie.Need-returns
-returns c = (
-  c .angle-of .ensures .0 ∙ size-low epicycles (c .before .before .before .args .a) (c .before .tangent .result) (search needs) (c .before .tangent .ensures),
-  c .angle-of .ensures .1,
-)
-
-sub-tangent : tie.Need-sub-tangent
-sub-tangent c = search needs
-
-tangent-requires-2 : tie.Need-tangent-requires-2
-tangent-requires-2 c κs = search needs
-
-angle-of-requires-2 : tie.Need-angle-of-requires-2
-angle-of-requires-2 c κs = search needs
-
-returns-2 : tie.Need-returns-2
-returns-2 c = (
-  c .angle-of2 .ensures .0 ∙ size-high epicycles (c .before .before .before .args .a) (c .before .tangent2 .result) (search needs) (c .before .tangent2 .ensures),
-  c .angle-of2 .ensures .1,
-)
+returns c =
+    let arc = c .before .before in (
+      c .angle-of .ensures .0
+          ∙ size-from epicycles (arc .before .args .a) (c .before .tangent .result) (c .before .tangent .ensures ∙ ap (tangentOf epicycles) (arc .mirrored .ensures .0)),
+      c .angle-of .ensures .1,
+    )
 
 pub size-at-spec : {M : Type 1} → statement M
-size-at-spec =
-    tie.close (tie.spec tangent-requires angle-of-requires returns sub-tangent tangent-requires-2 angle-of-requires-2 returns-2)
+size-at-spec = tie.close (tie.spec mirrored-requires tangent-requires angle-of-requires returns)
