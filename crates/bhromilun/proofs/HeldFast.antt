@@ -6,6 +6,7 @@ use Rattle.bhromilun.proofs.reckoning.bhromilun_equation as equation
 use Rattle.bhromilun.proofs.reckoning.bhromilun_mean_place as mean-place
 use Rattle.bhromilun.proofs.reckoning.bhromilun_true_place as true-place
 use Rattle.bhromilun.proofs.reckoning.bhromilun_term as term
+use Rattle.bhromilun.proofs.reckoning.bhromilun_terms as terms
 use Rattle.bhromilun.proofs.reckoning.bhromilun_local_time as local-time
 use Rattle.bhromilun.proofs.books.bhromilun_write_year as write-year
 use Rattle.bhromilun.proofs.books.bhromilun_check_book as check-book
@@ -37,6 +38,10 @@ bhromilun-true-place-held M 𝓤 H A mem run κs a z z′ w w′ g g′ =
 pub bhromilun-term-held : Held term.ended (λ M. term.clauses {M = M})
 bhromilun-term-held M 𝓤 H A mem run κs a z z′ w w′ g g′ =
     by-facts 𝓤 (λ p q. (one (p .0) (q .0), refl and refl and one (p .1) (q .1) and one (p .2) (q .2) and one (p .3) (q .3) and refl))
+
+pub bhromilun-terms-held : Held terms.ended (λ M. terms.clauses {M = M})
+bhromilun-terms-held M 𝓤 H A mem run κs a z z′ w w′ g g′ =
+    by-facts 𝓤 (λ p q. (one (p .0) (q .0), refl and one (p .1) (q .1) and one (p .2) (q .2) and one (p .3) (q .3) and refl))
 
 pub bhromilun-local-time-held : Held local-time.ended (λ M. local-time.clauses {M = M})
 bhromilun-local-time-held M 𝓤 H A mem run κs a z z′ w w′ g g′ =

@@ -1,13 +1,15 @@
 // The year, places, terms and local time.
 use local::LocalAnswer;
+use sun::Listed;
 use sun::TermAnswer;
 use sun::YearAnswer;
 use units::ArcSeconds;
 use units::Number;
 use units::Signed;
+ghost use mathlib.Core.List.{map};
 ghost use mathlib.Core.Path.{_≡_};
 ghost use Rattle.law.specs.Answer.{refusalIn, afterwards, part};
-ghost use Rattle.law.specs.Document.{epicycles, yearAnswer, equationAnswer, meanAnswer, trueAnswer, termAnswer, localAnswer};
+ghost use Rattle.law.specs.Document.{epicycles, yearAnswer, equationAnswer, meanAnswer, trueAnswer, termAnswer, termsAnswer, localAnswer};
 
 // The mean solstice of a year: its day name, its fraction of a day in thousand-millionths, and the duty mansion.
 #[no_mangle]
@@ -92,6 +94,41 @@ pub extern "C" fn bhromilun_term(
             0
         }
         TermAnswer::Refused(refusal) => units::refusal_number(refusal),
+    }
+}
+
+// The year call: the day and minute of each of a year's 24 terms, and the midnights visited to find them.
+#[no_mangle]
+pub extern "C" fn bhromilun_terms(
+    n: i64,
+    days: &mut [i64; 24],
+    minutes: &mut [u64; 24],
+    counts: &mut [u64; 24],
+) -> u64
+    ensures { λ r. ⌜ (r ≡ refusalIn (termsAnswer epicycles n)) × (now (days .exit) ≡ afterwards (now (days .entry)) (part (map (λ v. v .dayOfTerm)) (termsAnswer epicycles n))) × (now (minutes .exit) ≡ afterwards (now (minutes .entry)) (part (map (λ v. v .minuteOfTerm)) (termsAnswer epicycles n))) × (now (counts .exit) ≡ afterwards (now (counts .entry)) (part (map (λ v. v .midnights)) (termsAnswer epicycles n))) ⌝ }
+{
+    let year = sun::terms_of(n);
+    let answer = year.answer;
+    match answer {
+        Listed::All => {
+            let mut day_of = [0i64; 24];
+            let mut minute_of = [0u64; 24];
+            let mut count_of = [0u64; 24];
+            let mut k: usize = 0;
+            while k < 24 {
+                let term = year.at[k];
+                let day = term.day;
+                day_of[k] = day;
+                minute_of[k] = term.minute;
+                count_of[k] = term.count;
+                k += 1;
+            }
+            *days = day_of;
+            *minutes = minute_of;
+            *counts = count_of;
+            0
+        }
+        Listed::Refused(refusal) => units::refusal_number(refusal),
     }
 }
 
