@@ -38,6 +38,10 @@ uint64_t bhromilun_true_place(int64_t n, int64_t day, uint64_t *place);
    Refuses 1, 3. */
 uint64_t bhromilun_term(int64_t n, uint64_t k, int64_t *day, uint64_t *minute, uint64_t *count);
 
+/* The year call: day, minute and count of each of the 24 terms, term 0 first. Quicker than 24 calls of
+   the one above, which prepares its tables each time. Refuses 1. */
+uint64_t bhromilun_terms(int64_t n, int64_t days[24], uint64_t minutes[24], uint64_t counts[24]);
+
 /* The day and minute at a place so many seconds of arc east of the capital, at most 648,000 either
    way; the day may come out as -5 or 371. Refuses 2, 4. */
 uint64_t bhromilun_local_time(int64_t day, uint64_t minute, int64_t longitude,

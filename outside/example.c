@@ -17,18 +17,18 @@ int main(void)
     }
     printf("year %" PRId64 ": day name %" PRIu64 ", mansion %" PRIu64 "\n", n, day_name, mansion);
 
-    for (uint64_t k = 0; k < 24; k++) {
-        int64_t day;
-        uint64_t minute, count;
-        refused = bhromilun_term(n, k, &day, &minute, &count);
-        if (refused != 0) {
-            printf("refused %" PRIu64 "\n", refused);
-            return 1;
-        }
+    int64_t days[24];
+    uint64_t minutes[24], counts[24];
+    refused = bhromilun_terms(n, days, minutes, counts);
+    if (refused != 0) {
+        printf("refused %" PRIu64 "\n", refused);
+        return 1;
+    }
+    for (int k = 0; k < 24; k++) {
         /* Day 0 is the day after the mean solstice's; a term's day is never below -4. */
-        uint64_t name = (day_name + 1 + 60 + (uint64_t)day) % 60;
-        printf("term %2" PRIu64 ": day %3" PRId64 ", name %2" PRIu64 ", %02" PRIu64 ":%02" PRIu64 "\n",
-               k, day, name, minute / 60, minute % 60);
+        uint64_t name = (day_name + 1 + 60 + (uint64_t)days[k]) % 60;
+        printf("term %2d: day %3" PRId64 ", name %2" PRIu64 ", %02" PRIu64 ":%02" PRIu64 "\n",
+               k, days[k], name, minutes[k] / 60, minutes[k] % 60);
     }
 
     refused = bhromilun_year(2001, &day_name, &fraction, &mansion);

@@ -7,8 +7,7 @@ fn main() -> Result<(), Refusal> {
     let n = 0;
     let solstice = wall::year(n)?;
     println!("year {n}: day name {}, mansion {}", solstice.day_name, solstice.mansion);
-    for k in 0..24 {
-        let term = wall::term(n, k)?;
+    for (k, term) in wall::terms(n)?.iter().enumerate() {
         // Day 0 is the day after the mean solstice's.
         let day_name = (solstice.day_name as i64 + 1 + term.day).rem_euclid(60);
         let (hour, minute) = (term.minute / 60, term.minute % 60);

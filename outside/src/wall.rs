@@ -24,6 +24,12 @@ pub mod plain {
                 minute: &mut u64,
                 count: &mut u64,
             ) -> u64;
+            pub fn bhromilun_terms(
+                n: i64,
+                days: &mut [i64; 24],
+                minutes: &mut [u64; 24],
+                counts: &mut [u64; 24],
+            ) -> u64;
             pub fn bhromilun_local_time(
                 day: i64,
                 minute: u64,
@@ -62,6 +68,15 @@ pub mod plain {
 
     pub fn term(n: i64, k: u64, day: &mut i64, minute: &mut u64, count: &mut u64) -> u64 {
         unsafe { library::bhromilun_term(n, k, day, minute, count) }
+    }
+
+    pub fn terms(
+        n: i64,
+        days: &mut [i64; 24],
+        minutes: &mut [u64; 24],
+        counts: &mut [u64; 24],
+    ) -> u64 {
+        unsafe { library::bhromilun_terms(n, days, minutes, counts) }
     }
 
     pub fn local_time(
@@ -136,6 +151,17 @@ pub fn term(n: i64, k: u64) -> Result<Term, Refusal> {
     let mut term = Term::default();
     let number = plain::term(n, k, &mut term.day, &mut term.minute, &mut term.count);
     answered(number, term)
+}
+
+/// The 24 terms of the year `n`, or refusal 1.
+pub fn terms(n: i64) -> Result<[Term; 24], Refusal> {
+    let (mut days, mut minutes, mut counts) = ([0; 24], [0; 24], [0; 24]);
+    let number = plain::terms(n, &mut days, &mut minutes, &mut counts);
+    let mut terms = [Term::default(); 24];
+    for (k, term) in terms.iter_mut().enumerate() {
+        *term = Term { day: days[k], minute: minutes[k], count: counts[k] };
+    }
+    answered(number, terms)
 }
 
 /// The day and minute at a place `longitude` seconds of arc east of the capital, or refusal 2 or 4.

@@ -30,18 +30,24 @@ fn main() {
     println!("| Work | Library, ns | Ours, ns | Ratio |");
     println!("|---|---:|---:|---:|");
     row(
-        "24 terms of a year",
+        "the year call",
         2_000,
-        |call| sum_of_terms(|k| library_term(year_of(call), k)),
+        |call| library_terms(year_of(call)),
         |call| fast::Year::new(year_of(call)).map_or(0, |year| sum_of_terms(|k| year.term(k))),
     );
     row(
-        "24 terms of a year, ours walking as the library does",
+        "the year call, ours walking as the library does",
         2_000,
-        |call| sum_of_terms(|k| library_term(year_of(call), k)),
+        |call| library_terms(year_of(call)),
         |call| {
             fast::Year::new(year_of(call)).map_or(0, |year| sum_of_terms(|k| year.term_walked(k)))
         },
+    );
+    row(
+        "a term",
+        40_000,
+        |call| sum_of(library_term(year_of(call), term_of(call))),
+        |call| fast::Year::new(year_of(call)).map_or(0, |year| sum_of(year.term(term_of(call)))),
     );
     row(
         "a true place",
@@ -91,15 +97,31 @@ fn day_of(call: usize) -> i64 {
     hidden((call * 233 % 375) as i64 - 4)
 }
 
+fn term_of(call: usize) -> u64 {
+    hidden((call * 7 % 24) as u64)
+}
+
+fn library_terms(n: i64) -> u64 {
+    let (mut days, mut minutes, mut counts) = ([0; 24], [0; 24], [0; 24]);
+    plain::terms(n, &mut days, &mut minutes, &mut counts);
+    sum_of_terms(|k| {
+        let k = k as usize;
+        Term { day: days[k], minute: minutes[k], count: counts[k] }
+    })
+}
+
 fn library_term(n: i64, k: u64) -> Term {
     let mut term = Term::default();
     plain::term(n, k, &mut term.day, &mut term.minute, &mut term.count);
     term
 }
 
+fn sum_of(Term { day, minute, count }: Term) -> u64 {
+    (day as u64).wrapping_mul(1_440).wrapping_add(minute + count)
+}
+
 fn sum_of_terms(term: impl Fn(u64) -> Term) -> u64 {
-    let sum = |Term { day, minute, count }| (day as u64).wrapping_mul(1_440) + minute + count;
-    (0..24).map(|k| sum(term(hidden(k)))).fold(0, u64::wrapping_add)
+    (0..24).map(|k| sum_of(term(hidden(k)))).fold(0, u64::wrapping_add)
 }
 
 fn sum_of_part(part: Result<&[u8], Refusal>) -> u64 {

@@ -23,6 +23,7 @@ fn main() {
     places(&mut tally);
     equations(&mut tally);
     terms(&mut tally);
+    year_calls(&mut tally);
     local_times(&mut tally);
     let shelf = written_years(&mut tally);
     whole_book(&mut tally, &shelf);
@@ -205,6 +206,24 @@ fn terms(tally: &mut Tally) {
         }
     }
     tally.end_of_part("terms");
+}
+
+/// The year call; a case for each of the 24 terms.
+fn year_calls(tally: &mut Tally) {
+    for n in YEARS.chain(years_outside()) {
+        let (mut days, mut minutes, mut counts) = ([BEFORE_SIGNED; 24], [BEFORE; 24], [BEFORE; 24]);
+        let number = plain::terms(n, &mut days, &mut minutes, &mut counts);
+        for k in 0..24 {
+            let ours = match reckoning::term(n, k) {
+                Ok(Term { day, minute, count }) => (0, day, minute, count),
+                Err(refusal) => (refusal.number, BEFORE_SIGNED, BEFORE, BEFORE),
+            };
+            let place = k as usize;
+            let theirs = (number, days[place], minutes[place], counts[place]);
+            tally.case(|| format!("term {k} of the year call {n}"), theirs, ours);
+        }
+    }
+    tally.end_of_part("year calls");
 }
 
 fn local_times(tally: &mut Tally) {
@@ -426,6 +445,8 @@ fn results(tally: &mut Tally, shelf: &[u8]) {
     for n in [-676, 0, 2_001] {
         case("year's result", wall::year(n) == reckoning::year(n));
         case("term's result", wall::term(n, 5) == reckoning::term(n, 5));
+        let ours: Result<Vec<Term>, Refusal> = (0..24).map(|k| reckoning::term(n, k)).collect();
+        case("year call's result", wall::terms(n).map(|terms| terms.to_vec()) == ours);
         case("mean place's result", wall::mean_place(n, 7) == reckoning::mean_place(n, 7));
         case("true place's result", wall::true_place(n, 7) == reckoning::true_place(n, 7));
         for length in [YEAR_BYTES - 1, YEAR_BYTES, YEAR_BYTES + 1] {
