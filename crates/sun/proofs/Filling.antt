@@ -17,7 +17,7 @@ use Rattle.motion.proofs.TermAnswers.{terms-value}
 use Rattle.sun.specs.declared.term.TermRecord.{TermRecord}
 use Rattle.sun.specs.declared.records.Records.{Records}
 use Rattle.sun.specs.Said.{valuesOf}
-use Rattle.sun.specs.Records.{held, stored, fitting, keeps}
+use Rattle.sun.specs.Records.{stored, fitting, keeps}
 
 module _ (e : ℕ) (N : ℤ) (room : ℕ) where
   pub fill-1 : badYear N ≡ true → fillAnswer e N room ≡ refused 1

@@ -12,7 +12,7 @@ use units::Signed;
 ghost use mathlib.Core.Path.{_≡_};
 ghost use Prim.Native.Nat.{_+_, _*_, _-_, _/_, _≤_, _<_, _^_};
 ghost use Rattle.law.specs.Round.{halfUp};
-ghost use Rattle.law.specs.Document.{minute, tenMinutes, quarter, half, circle, radius, inCircle, mirrored as mirroredArc, sine, epicycles, equationAnswer};
+ghost use Rattle.law.specs.Document.{minute, quarter, half, circle, radius, inCircle, mirrored as mirroredArc, sine, epicycles, equationAnswer};
 ghost use Rattle.law.specs.Sines.{sines as sineTable};
 ghost use Rattle.law.specs.Tangents.{tangents as tangentTable};
 ghost use Rattle.law.specs.Working.{heightOf, baseOf, tangentOf, angleAnswer, sizeAnswer};
