@@ -459,13 +459,17 @@ EXPECTED_FILES = [
     ("crates/compared/stdout", [tables_lines, year_lines, equation_lines, place_lines, term_lines, list_lines, local_lines]),
 ]
 
-# Each program that reads: its crate's folder, and the input whose answers it writes.
-INPUTS = [
-    ("crates/solstice", document_input()),
-    ("crates/solstice_cases", cases_input()),
-    ("crates/solstice_newline", b"\n"),
-    ("crates/solstice_nothing", b""),
-]
+# Further inputs of the solstice program, by their names.
+SOLSTICE_CASES = [("many_lines", cases_input()), ("newline", b"\n"), ("nothing", b"")]
+
+
+def run_files(program, given, cases, answers):
+    """The files of a program that reads: the input and output that its crate is run on, and those of its further cases."""
+    yield f"crates/{program}/stdin", given
+    yield f"crates/{program}/stdout", answers(given)
+    for name, further in cases:
+        yield f"tests/cases/{program}/{name}.in", further
+        yield f"tests/cases/{program}/{name}.out", answers(further)
 
 
 def expected_files():
@@ -475,9 +479,7 @@ def expected_files():
 
     for path, parts in EXPECTED_FILES:
         yield path, "".join(line + "\n" for part in parts for line in part()).encode()
-    for folder, given in INPUTS:
-        yield f"{folder}/stdin", given
-        yield f"{folder}/stdout", answers_to(given)
+    yield from run_files("solstice", document_input(), SOLSTICE_CASES, answers_to)
     yield from term_book.expected_files()
     yield from wall_ring.expected_files()
 

@@ -4,7 +4,7 @@ program book_cases is run on. Shares nothing with the Rattle sources; expected.p
 
 import random
 
-from expected import Refused, day_name, lines_of, mansion, term_values, year_asked
+from expected import Refused, day_name, lines_of, mansion, run_files, term_values, year_asked
 
 YEAR_KIND, TERM_KIND = 1, 2
 BODY = {YEAR_KIND: 4, TERM_KIND: 5}
@@ -249,11 +249,7 @@ def book_asked(given):
         return f"refused {refusal.args[0]}\n".encode()
 
 
-BOOK_INPUTS = [
-    ("crates/termbook", b"-676\nnot read\n"),
-    ("crates/termbook_refused", b"2001"),
-    ("crates/termbook_nothing", b""),
-]
+TERMBOOK_CASES = [("refused", b"2001"), ("nothing", b"")]
 
 
 def expected_files():
@@ -261,6 +257,5 @@ def expected_files():
     return [
         ("crates/book_cases/stdin", case_input()),
         ("crates/book_cases/stdout", "".join(line + "\n" for line in lines).encode()),
-        *((f"{folder}/stdin", given) for folder, given in BOOK_INPUTS),
-        *((f"{folder}/stdout", book_asked(given)) for folder, given in BOOK_INPUTS),
+        *run_files("termbook", b"-676\nnot read\n", TERMBOOK_CASES, book_asked),
     ]
