@@ -21,38 +21,38 @@ _and_ : {A B : Type 0} {x y : A} {u v : B} → x ≡ y → u ≡ v → pair x u 
 p and q = ap₂ pair p q
 
 pub bhromilun-year-held : Held year.ended (λ M. year.clauses {M = M})
-bhromilun-year-held M 𝓤 H A mem run κs a z z′ w w′ g g′ =
-    by-facts 𝓤 (λ p q. (one (p .0) (q .0), refl and one (p .1) (q .1) and one (p .2) (q .2) and one (p .3) (q .3) and refl))
+bhromilun-year-held M 𝓤 H A mem run κs a =
+    by-facts 𝓤 (λ z z′ w w′ p q. (one (p .0) (q .0), refl and one (p .1) (q .1) and one (p .2) (q .2) and one (p .3) (q .3) and refl))
 
 pub bhromilun-equation-held : Held equation.ended (λ M. equation.clauses {M = M})
-bhromilun-equation-held M 𝓤 H A mem run κs a z z′ w w′ g g′ = by-facts 𝓤 (λ p q. (one (p .0) (q .0), refl and one (p .1) (q .1) and refl))
+bhromilun-equation-held M 𝓤 H A mem run κs a = by-facts 𝓤 (λ z z′ w w′ p q. (one (p .0) (q .0), refl and one (p .1) (q .1) and refl))
 
 pub bhromilun-mean-place-held : Held mean-place.ended (λ M. mean-place.clauses {M = M})
-bhromilun-mean-place-held M 𝓤 H A mem run κs a z z′ w w′ g g′ =
-    by-facts 𝓤 (λ p q. (one (p .0) (q .0), refl and refl and one (p .1) (q .1) and refl))
+bhromilun-mean-place-held M 𝓤 H A mem run κs a =
+    by-facts 𝓤 (λ z z′ w w′ p q. (one (p .0) (q .0), refl and refl and one (p .1) (q .1) and refl))
 
 pub bhromilun-true-place-held : Held true-place.ended (λ M. true-place.clauses {M = M})
-bhromilun-true-place-held M 𝓤 H A mem run κs a z z′ w w′ g g′ =
-    by-facts 𝓤 (λ p q. (one (p .0) (q .0), refl and refl and one (p .1) (q .1) and refl))
+bhromilun-true-place-held M 𝓤 H A mem run κs a =
+    by-facts 𝓤 (λ z z′ w w′ p q. (one (p .0) (q .0), refl and refl and one (p .1) (q .1) and refl))
 
 pub bhromilun-term-held : Held term.ended (λ M. term.clauses {M = M})
-bhromilun-term-held M 𝓤 H A mem run κs a z z′ w w′ g g′ =
-    by-facts 𝓤 (λ p q. (one (p .0) (q .0), refl and refl and one (p .1) (q .1) and one (p .2) (q .2) and one (p .3) (q .3) and refl))
+bhromilun-term-held M 𝓤 H A mem run κs a =
+    by-facts 𝓤 (λ z z′ w w′ p q. (one (p .0) (q .0), refl and refl and one (p .1) (q .1) and one (p .2) (q .2) and one (p .3) (q .3) and refl))
 
 pub bhromilun-terms-held : Held terms.ended (λ M. terms.clauses {M = M})
-bhromilun-terms-held M 𝓤 H A mem run κs a z z′ w w′ g g′ =
-    by-facts 𝓤 (λ p q. (one (p .0) (q .0), refl and one (p .1) (q .1) and one (p .2) (q .2) and one (p .3) (q .3) and refl))
+bhromilun-terms-held M 𝓤 H A mem run κs a =
+    by-facts 𝓤 (λ z z′ w w′ p q. (one (p .0) (q .0), refl and one (p .1) (q .1) and one (p .2) (q .2) and one (p .3) (q .3) and refl))
 
 pub bhromilun-local-time-held : Held local-time.ended (λ M. local-time.clauses {M = M})
-bhromilun-local-time-held M 𝓤 H A mem run κs a z z′ w w′ g g′ =
-    by-facts 𝓤 (λ p q. (one (p .0) (q .0), refl and refl and refl and one (p .1) (q .1) and one (p .2) (q .2) and refl))
+bhromilun-local-time-held M 𝓤 H A mem run κs a =
+    by-facts 𝓤 (λ z z′ w w′ p q. (one (p .0) (q .0), refl and refl and refl and one (p .1) (q .1) and one (p .2) (q .2) and refl))
 
 pub bhromilun-write-year-held : Held write-year.ended (λ M. write-year.clauses {M = M})
-bhromilun-write-year-held M 𝓤 H A mem run κs a z z′ w w′ g g′ = by-facts 𝓤 (λ p q. (one (p .0) (q .0), refl and one (p .1) (q .1) and refl))
+bhromilun-write-year-held M 𝓤 H A mem run κs a = by-facts 𝓤 (λ z z′ w w′ p q. (one (p .0) (q .0), refl and one (p .1) (q .1) and refl))
 
 pub bhromilun-check-book-held : Held check-book.ended (λ M. check-book.clauses {M = M})
-bhromilun-check-book-held M 𝓤 H A mem run κs a z z′ w w′ g g′ = by-facts 𝓤 (λ p q. (one (p .0) (q .0), refl and one (p .1) (q .1) and refl))
+bhromilun-check-book-held M 𝓤 H A mem run κs a = by-facts 𝓤 (λ z z′ w w′ p q. (one (p .0) (q .0), refl and one (p .1) (q .1) and refl))
 
 pub bhromilun-seek-year-held : Held seek-year.ended (λ M. seek-year.clauses {M = M})
-bhromilun-seek-year-held M 𝓤 H A mem run κs a z z′ w w′ g g′ =
-    by-facts 𝓤 (λ p q. (one (p .0) (q .0), refl and refl and one (p .1) (q .1) and one (p .2) (q .2) and one (p .3) (q .3) and refl))
+bhromilun-seek-year-held M 𝓤 H A mem run κs a =
+    by-facts 𝓤 (λ z z′ w w′ p q. (one (p .0) (q .0), refl and refl and one (p .1) (q .1) and one (p .2) (q .2) and one (p .3) (q .3) and refl))

@@ -72,17 +72,17 @@ written-back (written.Refused r) = ap written.Refused (refusal-back r)
 -- ---- the functions
 
 pub next-at-held : Held next-at.ended (λ M. next-at.clauses {M = M})
-next-at-held M 𝓤 H A mem run κs a z z′ w w′ g g′ = by-facts 𝓤 (λ p q. (one-said saidNext nextFrom next-back p q, refl))
+next-at-held M 𝓤 H A mem run κs a = by-facts 𝓤 (λ z z′ w w′ p q. (one-said saidNext nextFrom next-back p q, refl))
 
 pub check-book-held : Held check-book.ended (λ M. check-book.clauses {M = M})
-check-book-held M 𝓤 H A mem run κs a z z′ w w′ g g′ = by-facts 𝓤 (λ p q. (one-said saidChecked checkedFrom checked-back p q, refl))
+check-book-held M 𝓤 H A mem run κs a = by-facts 𝓤 (λ z z′ w w′ p q. (one-said saidChecked checkedFrom checked-back p q, refl))
 
 pub seek-year-held : Held seek-year.ended (λ M. seek-year.clauses {M = M})
-seek-year-held M 𝓤 H A mem run κs a z z′ w w′ g g′ = by-facts 𝓤 (λ p q. (one-said saidSought soughtFrom sought-back p q, refl))
+seek-year-held M 𝓤 H A mem run κs a = by-facts 𝓤 (λ z z′ w w′ p q. (one-said saidSought soughtFrom sought-back p q, refl))
 
 -- a part of the lent book is seen as its bytes and their place
 pub year-part-held : Seen year-part.ended (λ κs. List ℕ × (ℕ × ℕ)) (λ κs r. (now r, ptr r)) (λ M. year-part.clauses {M = M})
-year-part-held M 𝓤 H A mem run κs a z z′ w w′ g g′ = by-facts 𝓤 (λ p q. (pair≡ (one (p .0) (q .0)) (one (p .1) (q .1)), refl))
+year-part-held M 𝓤 H A mem run κs a = by-facts 𝓤 (λ z z′ w w′ p q. (pair≡ (one (p .0) (q .0)) (one (p .1) (q .1)), refl))
 
 -- a year read: its answer by the first promise, N, day name and mansion by the second
 abbrev readAnswerFrom : Answer Checked → ReadAnswer
@@ -107,27 +107,27 @@ one-read : (z z′ : ReadYear) {c : Answer Checked} {v : HeadValues} → saidRea
 one-read z z′ p q p′ q′ = sym (read-back z) ∙ (ap₂ readFrom (one p p′) (one q q′) ∙ read-back z′)
 
 pub read-year-held : Held read-year.ended (λ M. read-year.clauses {M = M})
-read-year-held M 𝓤 H A mem run κs a z z′ w w′ g g′ =
-    by-facts 𝓤 (λ p q. (one-read z z′ (p .0) (p .1) (q .0) (q .1), ap (λ l. (tt, (l, tt))) (one-records (p .2) (q .2))))
+read-year-held M 𝓤 H A mem run κs a =
+    by-facts 𝓤 (λ z z′ w w′ p q. (one-read z z′ (p .0) (p .1) (q .0) (q .1), ap (λ l. (tt, (l, tt))) (one-records (p .2) (q .2))))
 
 pub write-year-from-held : Held write-year-from.ended (λ M. write-year-from.clauses {M = M})
-write-year-from-held M 𝓤 H A mem run κs a z z′ w w′ g g′ =
-    by-facts 𝓤 (λ p q. (one-said saidWritten writtenFrom written-back (p .0) (q .0), ap (λ l. (tt, (tt, (tt, (tt, (l, tt)))))) (one (p .1) (q .1))))
+write-year-from-held M 𝓤 H A mem run κs a =
+    by-facts 𝓤 (λ z z′ w w′ p q. (one-said saidWritten writtenFrom written-back (p .0) (q .0), ap (λ l. (tt, (tt, (tt, (tt, (l, tt)))))) (one (p .1) (q .1))))
 
 pub write-year-held : Held write-year.ended (λ M. write-year.clauses {M = M})
-write-year-held M 𝓤 H A mem run κs a z z′ w w′ g g′ =
-    by-facts 𝓤 (λ p q. (one-said saidWritten writtenFrom written-back (p .0) (q .0), ap (λ l. (tt, (l, tt))) (one (p .1) (q .1))))
+write-year-held M 𝓤 H A mem run κs a =
+    by-facts 𝓤 (λ z z′ w w′ p q. (one-said saidWritten writtenFrom written-back (p .0) (q .0), ap (λ l. (tt, (l, tt))) (one (p .1) (q .1))))
 
 -- ---- the reader
 
 -- the reader itself, on the same lent slice
 pub open-held : Held reader-open.ended (λ M. reader-open.clauses {M = M})
-open-held M 𝓤 H A mem run κs a z z′ w w′ g g′ = by-facts 𝓤 (λ p q. (one p q, refl))
+open-held M 𝓤 H A mem run κs a = by-facts 𝓤 (λ z z′ w w′ p q. (one p q, refl))
 
 -- what is found, the part's bytes and their place; and the reader afterwards
 pub next-held : Seen reader-next.ended (λ κs. NextAnswer × (List ℕ × (ℕ × ℕ))) (λ κs h. (h .what, (now (h .part), ptr (h .part)))) (λ M. reader-next.clauses {M = M})
-next-held M 𝓤 H A mem run κs a z z′ w w′ g g′ =
-    by-facts 𝓤 (λ p q. (
+next-held M 𝓤 H A mem run κs a =
+    by-facts 𝓤 (λ z z′ w w′ p q. (
       pair≡ (one-said saidNext nextFrom next-back (p .0) (q .0)) (pair≡ (one (p .1) (q .1)) (one (p .2) (q .2))),
       pair≡ (one (p .3) (q .3)) refl,
     ))

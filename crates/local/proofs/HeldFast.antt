@@ -18,4 +18,4 @@ local-back (Is v) = refl
 local-back (Refused r) = ap Refused (refusal-back r)
 
 pub local-time-held : Held local-time.ended (λ M. local-time.clauses {M = M})
-local-time-held M 𝓤 H A mem run κs a z z′ w w′ g g′ = by-facts 𝓤 (λ p q. (one-said saidLocal localFrom local-back p q, refl))
+local-time-held M 𝓤 H A mem run κs a = by-facts 𝓤 (λ z z′ w w′ p q. (one-said saidLocal localFrom local-back p q, refl))

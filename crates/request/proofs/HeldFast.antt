@@ -39,16 +39,16 @@ one-end {text} {out} {o} {o′} {n} {m} f g =
 -- ---- the functions
 
 pub line-step-held : Held line-step.ended (λ M. line-step.clauses {M = M})
-line-step-held M 𝓤 H A mem run κs a z z′ w w′ g g′ = by-facts 𝓤 (λ p q. (one p q, refl))
+line-step-held M 𝓤 H A mem run κs a = by-facts 𝓤 (λ z z′ w w′ p q. (one p q, refl))
 
 pub line-end-held : Held line-end.ended (λ M. line-end.clauses {M = M})
-line-end-held M 𝓤 H A mem run κs a z z′ w w′ g g′ = by-facts 𝓤 (λ p q. (one-said saidSigned signedFrom signed-back p q, refl))
+line-end-held M 𝓤 H A mem run κs a = by-facts 𝓤 (λ z z′ w w′ p q. (one-said saidSigned signedFrom signed-back p q, refl))
 
 pub asked-by-held : Held asked-by.ended (λ M. asked-by.clauses {M = M})
-asked-by-held M 𝓤 H A mem run κs a z z′ w w′ g g′ = by-facts 𝓤 (λ p q. (one-said saidSigned signedFrom signed-back p q, refl))
+asked-by-held M 𝓤 H A mem run κs a = by-facts 𝓤 (λ z z′ w w′ p q. (one-said saidSigned signedFrom signed-back p q, refl))
 
 pub feed-held : Held feed.ended (λ M. feed.clauses {M = M})
-feed-held M 𝓤 H A mem run κs a z z′ w w′ g g′ = by-facts 𝓤 (λ p q. let e = one-fed p q in (e .0, pair≡ refl (pair≡ refl (pair≡ (e .1) refl))))
+feed-held M 𝓤 H A mem run κs a = by-facts 𝓤 (λ z z′ w w′ p q. let e = one-fed p q in (e .0, pair≡ refl (pair≡ refl (pair≡ (e .1) refl))))
 
 pub finish-held : Held finish.ended (λ M. finish.clauses {M = M})
-finish-held M 𝓤 H A mem run κs a z z′ w w′ g g′ = by-facts 𝓤 (λ p q. let e = one-end p q in (e .0, pair≡ refl (pair≡ (e .1) refl)))
+finish-held M 𝓤 H A mem run κs a = by-facts 𝓤 (λ z z′ w w′ p q. let e = one-end p q in (e .0, pair≡ refl (pair≡ (e .1) refl)))

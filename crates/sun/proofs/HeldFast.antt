@@ -56,22 +56,22 @@ records-back (x ∷ xs) = ap (λ (r : List TermRecord). x ∷ r) (records-back x
 -- ---- the functions
 
 pub year-of-held : Held year-of.ended (λ M. year-of.clauses {M = M})
-year-of-held M 𝓤 H A mem run κs a z z′ w w′ g g′ = by-facts 𝓤 (λ p q. (one-said saidYear yearFrom year-back p q, refl))
+year-of-held M 𝓤 H A mem run κs a = by-facts 𝓤 (λ z z′ w w′ p q. (one-said saidYear yearFrom year-back p q, refl))
 
 pub equation-at-held : Held equation-at.ended (λ M. equation-at.clauses {M = M})
-equation-at-held M 𝓤 H A mem run κs a z z′ w w′ g g′ = by-facts 𝓤 (λ p q. (one-said saidSigned signedFrom signed-back p q, refl))
+equation-at-held M 𝓤 H A mem run κs a = by-facts 𝓤 (λ z z′ w w′ p q. (one-said saidSigned signedFrom signed-back p q, refl))
 
 pub mean-place-held : Held mean-place.ended (λ M. mean-place.clauses {M = M})
-mean-place-held M 𝓤 H A mem run κs a z z′ w w′ g g′ = by-facts 𝓤 (λ p q. (one-said saidNumber numberFrom number-back p q, refl))
+mean-place-held M 𝓤 H A mem run κs a = by-facts 𝓤 (λ z z′ w w′ p q. (one-said saidNumber numberFrom number-back p q, refl))
 
 pub true-place-held : Held true-place.ended (λ M. true-place.clauses {M = M})
-true-place-held M 𝓤 H A mem run κs a z z′ w w′ g g′ = by-facts 𝓤 (λ p q. (one-said saidNumber numberFrom number-back p q, refl))
+true-place-held M 𝓤 H A mem run κs a = by-facts 𝓤 (λ z z′ w w′ p q. (one-said saidNumber numberFrom number-back p q, refl))
 
 pub run-on-place-held : Held run-on-place.ended (λ M. run-on-place.clauses {M = M})
-run-on-place-held M 𝓤 H A mem run κs a z z′ w w′ g g′ = by-facts 𝓤 (λ p q. (one-said saidSigned signedFrom signed-back p q, refl))
+run-on-place-held M 𝓤 H A mem run κs a = by-facts 𝓤 (λ z z′ w w′ p q. (one-said saidSigned signedFrom signed-back p q, refl))
 
 pub term-of-held : Held term-of.ended (λ M. term-of.clauses {M = M})
-term-of-held M 𝓤 H A mem run κs a z z′ w w′ g g′ = by-facts 𝓤 (λ p q. (one-said saidTerm termFrom term-back p q, refl))
+term-of-held M 𝓤 H A mem run κs a = by-facts 𝓤 (λ z z′ w w′ p q. (one-said saidTerm termFrom term-back p q, refl))
 
 -- the year's list: its answer by the first promise, its records by the second
 abbrev listedFrom : Answer (List TermValues) → Listed
@@ -91,7 +91,7 @@ one-list z z′ s p q =
     ap₂ (λ (a : Listed) (l : List TermRecord). record { answer = a; at = l }) answers records
 
 pub terms-of-held : Held terms-of.ended (λ M. terms-of.clauses {M = M})
-terms-of-held M 𝓤 H A mem run κs a z z′ w w′ g g′ = by-facts 𝓤 (λ p q. (one-list z z′ (termsAnswer epicycles (a .0)) p q, refl))
+terms-of-held M 𝓤 H A mem run κs a = by-facts 𝓤 (λ z z′ w w′ p q. (one-list z z′ (termsAnswer epicycles (a .0)) p q, refl))
 
 -- a lent list afterwards, as its records are read
 pub one-records : {s : List TermValues} {l l′ : List TermRecord} → map valuesOf l ≡ s → map valuesOf l′ ≡ s → l ≡ l′
@@ -106,11 +106,11 @@ done-back listed.All = refl
 done-back (listed.Refused r) = ap listed.Refused (refusal-back r)
 
 pub store-records-held : Held store-records.ended (λ M. store-records.clauses {M = M})
-store-records-held M 𝓤 H A mem run κs a z z′ w w′ g g′ = by-facts 𝓤 (λ p q. (refl, ap (λ l. (l, (tt, tt))) (one p q)))
+store-records-held M 𝓤 H A mem run κs a = by-facts 𝓤 (λ z z′ w w′ p q. (refl, ap (λ l. (l, (tt, tt))) (one p q)))
 
 pub first-records-held : Held first-records.ended (λ M. first-records.clauses {M = M})
-first-records-held M 𝓤 H A mem run κs a z z′ w w′ g g′ = by-facts 𝓤 (λ p q. (one p q, refl))
+first-records-held M 𝓤 H A mem run κs a = by-facts 𝓤 (λ z z′ w w′ p q. (one p q, refl))
 
 pub fill-terms-held : Held fill-terms.ended (λ M. fill-terms.clauses {M = M})
-fill-terms-held M 𝓤 H A mem run κs a z z′ w w′ g g′ =
-    by-facts 𝓤 (λ p q. (one-said saidDone doneFrom done-back (p .0) (q .0), ap (λ l. (l, (tt, tt))) (one-records (p .1) (q .1))))
+fill-terms-held M 𝓤 H A mem run κs a =
+    by-facts 𝓤 (λ z z′ w w′ p q. (one-said saidDone doneFrom done-back (p .0) (q .0), ap (λ l. (l, (tt, tt))) (one-records (p .1) (q .1))))

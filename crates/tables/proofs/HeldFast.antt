@@ -7,13 +7,13 @@ use Rattle.tables.proofs.sine_table as sine-table
 use Rattle.tables.proofs.tangent_table as tangent-table
 
 pub sine-entry-held : Held sine-entry.ended (λ M. sine-entry.clauses {M = M})
-sine-entry-held M 𝓤 H A mem run κs a z z′ w w′ g g′ = by-facts 𝓤 (λ p q. (one p q, refl))
+sine-entry-held M 𝓤 H A mem run κs a = by-facts 𝓤 (λ z z′ w w′ p q. (one p q, refl))
 
 pub tangent-entry-held : Held tangent-entry.ended (λ M. tangent-entry.clauses {M = M})
-tangent-entry-held M 𝓤 H A mem run κs a z z′ w w′ g g′ = by-facts 𝓤 (λ p q. (one p q, refl))
+tangent-entry-held M 𝓤 H A mem run κs a = by-facts 𝓤 (λ z z′ w w′ p q. (one p q, refl))
 
 pub sine-table-held : Held sine-table.ended (λ M. sine-table.clauses {M = M})
-sine-table-held M 𝓤 H A mem run κs a z z′ w w′ g g′ = by-facts 𝓤 (λ p q. (one p q, refl))
+sine-table-held M 𝓤 H A mem run κs a = by-facts 𝓤 (λ z z′ w w′ p q. (one p q, refl))
 
 pub tangent-table-held : Held tangent-table.ended (λ M. tangent-table.clauses {M = M})
-tangent-table-held M 𝓤 H A mem run κs a z z′ w w′ g g′ = by-facts 𝓤 (λ p q. (one p q, refl))
+tangent-table-held M 𝓤 H A mem run κs a = by-facts 𝓤 (λ z z′ w w′ p q. (one p q, refl))

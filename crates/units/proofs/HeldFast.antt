@@ -71,29 +71,29 @@ signed-back (signed.Refused r) = ap signed.Refused (refusal-back r)
 -- ---- the functions
 
 pub refusal-number-held : Held refusal-number.ended (λ M. refusal-number.clauses {M = M})
-refusal-number-held M 𝓤 H A mem run κs a z z′ w w′ g g′ = by-facts 𝓤 (λ p q. (one p q, refl))
+refusal-number-held M 𝓤 H A mem run κs a = by-facts 𝓤 (λ z z′ w w′ p q. (one p q, refl))
 
 pub year-index-held : Held year-index.ended (λ M. year-index.clauses {M = M})
-year-index-held M 𝓤 H A mem run κs a z z′ w w′ g g′ = by-facts 𝓤 (λ p q. (one-said saidNumber numberFrom number-back p q, refl))
+year-index-held M 𝓤 H A mem run κs a = by-facts 𝓤 (λ z z′ w w′ p q. (one-said saidNumber numberFrom number-back p q, refl))
 
 pub day-index-held : Held day-index.ended (λ M. day-index.clauses {M = M})
-day-index-held M 𝓤 H A mem run κs a z z′ w w′ g g′ = by-facts 𝓤 (λ p q. (one-said saidNumber numberFrom number-back p q, refl))
+day-index-held M 𝓤 H A mem run κs a = by-facts 𝓤 (λ z z′ w w′ p q. (one-said saidNumber numberFrom number-back p q, refl))
 
 pub size-held : Held size.ended (λ M. size.clauses {M = M})
-size-held M 𝓤 H A mem run κs a z z′ w w′ g g′ = by-facts 𝓤 (λ p q. (one p q, refl))
+size-held M 𝓤 H A mem run κs a = by-facts 𝓤 (λ z z′ w w′ p q. (one p q, refl))
 
 -- of arc seconds, and of clock seconds
 pub of-held : Held arc-of.ended (λ M. arc-of.clauses {M = M})
-of-held M 𝓤 H A mem run κs a z z′ w w′ g g′ = by-facts 𝓤 (λ p q. (ap (λ s. record { 0 = s }) (one p q), refl))
+of-held M 𝓤 H A mem run κs a = by-facts 𝓤 (λ z z′ w w′ p q. (ap (λ s. record { 0 = s }) (one p q), refl))
 
 pub clock-of-held : Held clock-of.ended (λ M. clock-of.clauses {M = M})
-clock-of-held M 𝓤 H A mem run κs a z z′ w w′ g g′ = by-facts 𝓤 (λ p q. (ap (λ s. record { 0 = s }) (one p q), refl))
+clock-of-held M 𝓤 H A mem run κs a = by-facts 𝓤 (λ z z′ w w′ p q. (ap (λ s. record { 0 = s }) (one p q), refl))
 
 pub seconds-held : Held arc-seconds.ended (λ M. arc-seconds.clauses {M = M})
-seconds-held M 𝓤 H A mem run κs a z z′ w w′ g g′ = by-facts 𝓤 (λ p q. (one p q, refl))
+seconds-held M 𝓤 H A mem run κs a = by-facts 𝓤 (λ z z′ w w′ p q. (one p q, refl))
 
 pub clock-seconds-held : Held clock-seconds.ended (λ M. clock-seconds.clauses {M = M})
-clock-seconds-held M 𝓤 H A mem run κs a z z′ w w′ g g′ = by-facts 𝓤 (λ p q. (one p q, refl))
+clock-seconds-held M 𝓤 H A mem run κs a = by-facts 𝓤 (λ z z′ w w′ p q. (one p q, refl))
 
 pub to-clock-held : Held to-clock.ended (λ M. to-clock.clauses {M = M})
-to-clock-held M 𝓤 H A mem run κs a z z′ w w′ g g′ = by-facts 𝓤 (λ p q. (ap (λ s. record { 0 = s }) (one p q), refl))
+to-clock-held M 𝓤 H A mem run κs a = by-facts 𝓤 (λ z z′ w w′ p q. (ap (λ s. record { 0 = s }) (one p q), refl))
