@@ -1,8 +1,8 @@
 -- In a sound book, seeking a year in range finds it exactly when one of the parts that a reader hands out has that N, hands out just
--- that part, and is refused 12 else. Assumes nothing.
+-- that part, 149 bytes, and is refused 12 else. Assumes nothing.
 use mathlib.Core.Bool.{Bool, true, false, cond, _||_}
 use mathlib.Core.List.{List, [], _∷_}
-use mathlib.Core.Path.{_≡_, refl, _∙_, ap}
+use mathlib.Core.Path.{_≡_, refl, _∙_, ap, sym}
 use Prim.Native.Nat.{ℕ, zero, suc, _+_, _-_, _≤_}
 use native.Mathlib.Decide.{decLt}
 use native.Mathlib.Omega.{arith}
@@ -11,9 +11,10 @@ use lib.IntN.{ℤ}
 use lib.ListN.{length, getD, take, drop, length-drop}
 use lib.Seq.{getD-take}
 use Rattle.law.specs.Document.{badYear}
-use Rattle.law.specs.Book.{Checked, sound, faulty, Sought, found, unsound, noYear, twoAt, bookFrom, bookOf, partsFrom, partsOf, seekIn, ifSound, yearCount, seekOf, partOf}
+use Rattle.law.specs.Book.{Checked, sound, faulty, Sought, found, unsound, noYear, twoAt, bookFrom, bookOf, partsFrom, partsOf, yearSize, seekFrom, seekIn, ifSound, yearCount, seekOf, partOf}
 use Rattle.book.proofs.BookSteps.{next-end, isSound, seek-none, seek-moved, seek-inside}
 use Rattle.book.proofs.WholeBooks.{handed, by-dec}
+use Rattle.book.proofs.HandedParts.{Each149, parts-149}
 
 -- the first part whose N is counted n, empty where there is none
 abbrev pub yearAmong : ℕ → List (List ℕ) → List ℕ
@@ -72,6 +73,29 @@ module _ (n : ℕ) (s : List ℕ) where
       ))
       (λ w. nothing-left (suc calls) at least (omega arith))
 
+-- what is not found is refused 12
+either-12 : (t : Bool) (a e : ℕ) (y : Sought) → (isFound y ≡ false → y ≡ noYear 12) → isFound (cond t (found a e) y) ≡ false
+    → cond t (found a e) y ≡ noYear 12
+either-12 true a e y f h = absurd (let z : _≡_ {A = ℕ} 0 1 = cc in omega arith)
+either-12 false a e y f h = f h
+
+found-or-12 : (most n at : ℕ) (b : List ℕ) → isFound (seekFrom most n at b) ≡ false → seekFrom most n at b ≡ noYear 12
+unfolding seekFrom
+found-or-12 zero n at b h = refl
+found-or-12 (suc most) n at [] h = refl
+found-or-12 (suc most) n at (x ∷ b) h =
+    let z = yearSize (x ∷ b) in
+    either-12 (eqb (twoAt (x ∷ b) 1) n) at (at + z) (seekFrom most n (at + z) (drop z (x ∷ b))) (found-or-12 most n (at + z) (drop z (x ∷ b))) h
+
+-- the part that is found is one of 149 bytes
+either-149 : (t b : Bool) (p q : List ℕ) → length p ≡ 149 → (b ≡ true → length q ≡ 149) → (t || b) ≡ true → length (cond t p q) ≡ 149
+either-149 true b p q h f k = h
+either-149 false b p q h f k = f k
+
+among-149 : (n : ℕ) (ps : List (List ℕ)) → Each149 ps → isAmong n ps ≡ true → length (yearAmong n ps) ≡ 149
+among-149 n [] e h = absurd (let z : _≡_ {A = ℕ} 0 1 = cc in omega arith)
+among-149 n (p ∷ ps) e h = either-149 (eqb (twoAt p 1) n) (isAmong n ps) p (yearAmong n ps) (e .0) (among-149 n ps (e .1)) h
+
 if-sound : (c : Checked) (x : Sought) → isSound c ≡ true → ifSound c x ≡ x
 if-sound (sound e) x h = refl
 if-sound (faulty n at) x h = absurd (let z : _≡_ {A = ℕ} 0 1 = cc in omega arith)
@@ -85,3 +109,9 @@ module _ (s : List ℕ) (N : ℤ) (h : badYear N ≡ false) (o : isSound (bookOf
 
   pub found-part : partOf s (seekOf s N) ≡ yearAmong (yearCount N) (partsOf s)
   found-part = ap (partOf s) sought ∙ agrees (yearCount N) s (length s) 0 0 (omega arith) o .0
+
+  pub found-149 : isFound (seekOf s N) ≡ true → length (partOf s (seekOf s N)) ≡ 149
+  found-149 f = ap length found-part ∙ among-149 (yearCount N) (partsOf s) (parts-149 (length s) s 0 0) (sym found-exactly ∙ f)
+
+  pub absent-refused : isAmong (yearCount N) (partsOf s) ≡ false → seekOf s N ≡ noYear 12
+  absent-refused a = sought ∙ found-or-12 (length s) (yearCount N) 0 s (ap isFound (sym sought) ∙ (found-exactly ∙ a))

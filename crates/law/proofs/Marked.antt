@@ -1,7 +1,7 @@
 -- Document 01, "Proved and compared": its table of marked cases as one statement, over the definitions that the contracts cite.
 -- And its table of constants: what it gives in two ways is one number. Assumes nothing.
 use mathlib.Core.Path.{_≡_, refl}
-use Prim.Native.Nat.{_+_, _*_}
+use Prim.Native.Nat.{_+_, _*_, _/_}
 use lib.IntN.{pos, negℤ}
 use Rattle.law.specs.Sines.{sines}
 use Rattle.law.specs.Tangents.{tangents}
@@ -43,12 +43,14 @@ marked =
       west = (refl, refl);
     }
 
--- seconds with their decimals are units; 10‴ are a sixth of a second; 360 degrees are the circle
+-- seconds with their decimals are units; 10‴ are a sixth of a second; 360 degrees are the circle; 1,296,000″ divided by the year, cut
+-- off at seven decimals, are the daily motion
 pub record Constants : Type 0 where
   pub circle-both : circle ≡ 77_760_000_000_000
   pub circle-degrees : circle ≡ 360 * degree
   pub year-decimals : yearLength * 10_000_000 ≡ 3_652_421_875 * day
   pub daily-both : dailyMotion * 10_000_000 ≡ 35_483_305_169 * second
+  pub daily-quotient : dailyMotion * 10_000_000 ≡ (1_296_000 * 10_000_000 * day / yearLength) * second
   pub yearly-both : perigeeYearly * 100_000 ≡ 6_116_666 * second
   pub perigee-both : perigeeDaily * 1_000_000 ≡ 167_469 * second
   pub epoch-both : perigeeEpoch * 60 ≡ (7 * degree + 10 * minute + 11 * second) * 60 + 10 * second
@@ -61,6 +63,7 @@ constants =
       circle-degrees = refl;
       year-decimals = refl;
       daily-both = refl;
+      daily-quotient = refl;
       yearly-both = refl;
       perigee-both = refl;
       epoch-both = refl;
