@@ -4,7 +4,8 @@ It shares nothing with the Rattle sources: no code, no table. The sines and tang
 from their series, the numbers are Python's unbounded ones, and each rule is the document's own formula.
 
     python3 tests/expected.py           writes every expected file
-    python3 tests/expected.py --check   writes nothing; names the files that differ and exits 1 if any does
+    python3 tests/expected.py --check   writes nothing; names the files that differ, and the rows of law/proofs/Worked*.antt
+                                        that are not as worked_facts.py has them, and exits 1 if there are any
 """
 
 import re
@@ -498,6 +499,10 @@ def main(arguments):
             file.write_bytes(expected)
         elif not file.is_file() or file.read_bytes() != expected:
             differing.append(path)
+    if arguments:
+        import worked_facts
+
+        differing += worked_facts.missing_rows()
     for path in differing:
         print(f"differs: {path}")
     sys.exit(1 if differing else 0)

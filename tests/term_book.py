@@ -40,6 +40,7 @@ def into(buffer, room, year):
 
 def write_year(n, buffer, room):
     day_name(n)  # refuses 1
+    into(buffer, room, bytes(149))  # refuses 6
     return into(buffer, room, year_bytes(n))
 
 

@@ -17,6 +17,11 @@ pub mod InOrder
 pub mod WorkedTerms
 pub mod WorkedLines
 pub mod WorkedBooks
+pub mod WorkedParts
+pub mod WorkedLimits
+pub mod WorkedOrders
+pub mod WorkedEdges
+pub mod WorkedAfter
 pub mod LocalTime
 pub mod HeldFast
 pub mod ByHand

@@ -1,0 +1,558 @@
+"""The facts worked out in law/proofs/Worked*.antt, as rows of those files, by document 01's rules alone: the calls
+are chosen here, and what each answers is reckoned by expected.py and term_book.py. Shares nothing with the Rattle sources.
+
+    python3 tests/worked_facts.py   prints the rows, file by file
+
+expected.py --check holds each file to its rows.
+"""
+
+import expected
+from expected import CIRCLE, DEGREE, HALF, MINUTE, QUARTER, SINE_STEP, Refused
+from term_book import number_at, read_year, two_bytes, write_values, write_year, year_bytes, year_end, years_of
+
+# How the definitions write a value.
+
+
+def natural(number):
+    return f"{number:_}"
+
+
+def signed(number):
+    return f"pos {number:_}" if number >= 0 else f"negℤ (pos {-number:_})"
+
+
+def given(number):
+    return f"({signed(number)})"
+
+
+def listed(numbers):
+    return " ∷ ".join([*map(natural, numbers), "[]"])
+
+
+def year_text(values):
+    return "(theYear {:_} {:_} {:_} {:_})".format(*values)
+
+
+def term_text(values):
+    return "(theTerm {} {:_} {:_})".format(given(values[0]), *values[1:])
+
+
+def local_text(values):
+    return "(there {} {:_})".format(given(values[0]), values[1])
+
+
+# The calls of the reckoning, each as a fact: what the definition is given, and the answer that is reckoned here. `e` is the
+# difference of the epicycles: the document's, or a wide one for which refusal 5 comes.
+
+OWN, WIDE = "epicycles", "1_000_000"
+
+
+def reckoned(e, call, *arguments):
+    own = expected.EPICYCLE_DIFFERENCE
+    expected.EPICYCLE_DIFFERENCE = own if e == OWN else int(e)
+    try:
+        return call(*arguments)
+    finally:
+        expected.EPICYCLE_DIFFERENCE = own
+
+
+def answered(write, call, *arguments):
+    try:
+        return f"value {write(call(*arguments))}"
+    except Refused as refusal:
+        return f"refused {refusal.args[0]}"
+
+
+def number_of(call, *arguments):
+    """The refusal's number, and 0 where there is none."""
+    try:
+        call(*arguments)
+        return 0
+    except Refused as refusal:
+        return refusal.args[0]
+
+
+def year_values(n):
+    return expected.day_name(n), expected.fraction(n), expected.mansion(n), expected.root(n)
+
+
+def local_values(*arguments):
+    _, day, _, minute = expected.local(*arguments).split()
+    return int(day), int(minute)
+
+
+def fill(n, room):
+    said, _ = expected.year_call(n, room)
+    if said != "all":
+        raise Refused(int(said.split()[1]))
+
+
+def year(n):
+    return f"yearAnswer {given(n)} ≡ {answered(year_text, year_values, n)}"
+
+
+def mean(n, day):
+    return f"meanAnswer {given(n)} {given(day)} ≡ {answered(natural, expected.mean_place, n, day)}"
+
+
+def true(n, day, e=OWN):
+    return f"trueAnswer {e} {given(n)} {given(day)} ≡ {answered(natural, reckoned, e, expected.true_place, n, day)}"
+
+
+def run_on(n, day, e=OWN):
+    return f"runOnAnswer {e} {given(n)} {given(day)} ≡ {answered(given, reckoned, e, expected.run_on, n, day)}"
+
+
+def equation(anomaly, e=OWN):
+    return f"equationAnswer {e} {given(anomaly)} ≡ {answered(given, reckoned, e, expected.equation, anomaly)}"
+
+
+def term(n, k, e=OWN):
+    return f"termAnswer {e} {given(n)} {k} ≡ {answered(term_text, reckoned, e, expected.term_values, n, k)}"
+
+
+def fill_refused(n, room, e=OWN):
+    return f"refusalIn (fillAnswer {e} {given(n)} {room}) ≡ {number_of(reckoned, e, fill, n, room)}"
+
+
+def first_off(n, e):
+    """Whether refusal 5 comes among the terms below 1."""
+    off = number_of(reckoned, e, expected.term_values, n, 0) == 5
+    return f"offBelow {e} {given(n)} 1 ≡ {str(off).lower()}"
+
+
+def local(day, minute, longitude):
+    found = answered(local_text, local_values, day, minute, longitude)
+    return f"localAnswer {given(day)} {minute:_} {given(longitude)} ≡ {found}"
+
+
+# The calls of the book. A book is given as the definitions write it and as its bytes. All are of the year 1684, or of its bytes
+# with others in their place.
+
+YEAR = year_bytes(0)
+
+
+def changed(at, *others):
+    """The year's bytes with other ones from a seat on."""
+    return f"(with {at} ({listed(others)}))", YEAR[:at] + bytes(others) + YEAR[at + len(others) :]
+
+
+def cut(at, *others):
+    """The year's bytes up to a seat, and then these alone."""
+    return f"(take {at} year ++ ({listed(others)}))", YEAR[:at] + bytes(others)
+
+
+def plain(*these):
+    return f"({listed(these)})", bytes(these)
+
+
+def joined(*books):
+    return "(" + " ++ ".join(text for text, _ in books) + ")", b"".join(book for _, book in books)
+
+
+def first(count):
+    return f"(take {count} year)", YEAR[:count]
+
+
+NAMED = {}  # the books that the proofs give a name, and what stands for them there
+
+
+def named(name, book):
+    NAMED[name] = book[0][1:-1]
+    return name, book[1]
+
+
+WHOLE, NOTHING = ("year", YEAR), ("[]", b"")
+NEXT = named("next", changed(2, YEAR[2] + 1))  # the same with the number of the year after, and of the one after that
+LAST = named("last", changed(2, YEAR[2] + 2))
+THREE = named("three", joined(WHOLE, joined(NEXT, LAST)))
+TWICE = named("twice", joined(WHOLE, WHOLE))
+BROKEN = named("broken", joined(WHOLE, ("take 8 next", NEXT[1][:8])))
+PARTS = {YEAR: "year", NEXT[1]: "next", LAST[1]: "last", b"": "[]"}
+
+
+def checked(book):
+    try:
+        return f"sound {years_of(book)[-1][2] if book else 0}"
+    except Refused as refusal:
+        return "faulty {} {}".format(*refusal.args)
+
+
+def check(book):
+    return f"bookOf {book[0]} ≡ {checked(book[1])}"
+
+
+def sought(book, n):
+    """What seeking a year says, and where its part starts and ends."""
+    try:
+        expected.require_year(n)
+        places = [(start, end) for year, start, end in years_of(book) if year == n]
+    except Refused as refusal:
+        return ("noYear {}" if len(refusal.args) == 1 else "unsound {} {}").format(*refusal.args), 0, 0
+    return ("found {} {}".format(*places[0]), *places[0]) if places else ("noYear 12", 0, 0)
+
+
+def seek(book, n):
+    return f"seekOf {book[0]} {given(n)} ≡ {sought(book[1], n)[0]}"
+
+
+def seeking(book, n):
+    """The answer, the part and where it starts."""
+    found, start, end = sought(book[1], n)
+    return f"Seeking {book[0]} {given(n)} ({found}) {PARTS[book[1][start:end]]} {start}"
+
+
+def read(book, room):
+    try:
+        read_year(book[1], room)
+        found = "value (sound 149)"
+    except Refused as refusal:
+        found = f"refused {refusal.args[0]}" if len(refusal.args) == 1 else "value (faulty {} {})".format(*refusal.args)
+    return f"readAnswer {book[0]} {room} ≡ {found}"
+
+
+def write_refused(n, name, mansion, day, minute, count, room):
+    """Of a list of so many equal terms."""
+    number = number_of(write_values, n, name, mansion, day, minute, count, bytes(room), room)
+    values = f"values {given(n)} {name} {mansion} {given(day)} {minute:_} {count}"
+    return f"refusalIn (writeAnswer ({values}) (replicate {room} 0)) ≡ {number}"
+
+
+def write_last_refused(day, minute):
+    """Of 24 terms of which only the last is of that day and minute: one term is refused as 24 of them are."""
+    number = number_of(write_values, 0, 0, 0, day, minute, 24, bytes(149), 149)
+    return f"refusalIn (writeAnswer (lastAlone {given(day)} {minute:_}) (replicate 149 0)) ≡ {number}"
+
+
+def worked_refused(n, room, e=OWN):
+    number = number_of(reckoned, e, write_year, n, bytes(room), room)
+    return f"refusalIn (workedAnswer {e} {given(n)} (replicate {room} 0)) ≡ {number}"
+
+
+def step(book, at, least):
+    """What a reader finds at a byte with the least N + 2,000 that may stand there; the part's end, and the least number then."""
+    if at >= len(book):
+        return "bookEnd", at, least
+    try:
+        end = year_end(book, at, least - 1)
+    except Refused as refusal:
+        return "(stop {} {})".format(*refusal.args), at, least
+    after = number_at(book, at + 1) + 1
+    return f"(nextYear {end} {after:_})", end, after
+
+
+def call(book, at, least):
+    """Its call there: what is found, the part and where it starts, and where the reader then stands."""
+    found, end, after = step(book[1], at, least)
+    start = at if end > at else 0
+    return f"Call {book[0]} {at} {least:_} {found} {PARTS[book[1][at:end]]} {start} {end} {after:_}"
+
+
+def parts(book):
+    at, found = 0, []
+    _, end, least = step(book[1], 0, 0)
+    while end > at:
+        found.append(PARTS[book[1][at:end]])
+        at = end
+        _, end, least = step(book[1], at, least)
+    return f"partsOf {book[0]} ≡ " + " ∷ ".join([*found, "[]"])
+
+
+# A request line.
+
+
+REFUSED_TEXTS = {b"refused 1\n": "refused-1", b"refused 11\n": "refused-11"}
+
+
+def text_of(written):
+    return REFUSED_TEXTS.get(written) or listed(written)
+
+
+def given_line(line):
+    return f"({listed(line)})" if line else "[]"
+
+
+def output(lines):
+    return f"output {given_line(lines)} ≡ {text_of(expected.answers_to(lines))}"
+
+
+def year_asked(line):
+    n = expected.year_asked(line)
+    expected.require_year(n)
+    return n
+
+
+def asks(line):
+    return f"lineAsks {given_line(line)} ≡ {answered(given, year_asked, line)}"
+
+
+def clock(name, part, fraction):
+    """Hour or minute of a fraction of a day, from its seconds."""
+    seconds = fraction * 86_400 // expected.DAY
+    return f"{name} {fraction:_} ≡ {(seconds // 3600, seconds // 60 % 60)[part]}"
+
+
+# The rows: a fact with its name, or a name for bytes or values that facts use.
+
+
+def terms():
+    for name, n, k in (("first", 0, 0), ("least", -2000, 0), ("most", 2000, 23), ("backward", -676, 5), ("eight", -1900, 16)):
+        day, minute, count = expected.term_values(n, k)
+        start = (15 * k * DEGREE - expected.root(n)) // expected.DAILY_MOTION - 3
+        yield name, f"Worked {given(n)} {k} {given(start)} {count} {given(day)} {minute:_}"
+
+
+def orders():
+    yield "mean-1-2", mean(2001, 371)
+    yield "true-1-2", true(-2001, -5)
+    yield "run-on-1-2", run_on(2001, -5)
+    yield "term-1-3", term(-2001, 24)
+    yield "fill-1-6", fill_refused(2001, 23)
+    yield "local-2-4-day", local(371, 0, 648_001)
+    yield "local-2-4-minute", local(0, 1440, -648_001)
+    yield "worked-1-6", worked_refused(-2001, 148)
+    yield "true-1-5", true(2001, -4, WIDE)
+    yield "true-2-5", true(0, -5, WIDE)
+    yield "true-5", true(0, -4, WIDE)
+    yield "run-on-1-5", run_on(-2001, -4, WIDE)
+    yield "run-on-2-5", run_on(0, -5, WIDE)
+    yield "run-on-5", run_on(0, -4, WIDE)
+    yield "term-1-5", term(2001, 6, WIDE)
+    yield "term-3-5", term(0, 24, WIDE)
+    yield "term-5", term(0, 6, WIDE)
+    yield "term-5-at-the-eighth", term(-1900, 16, "189_400")
+    yield "fill-1-5", fill_refused(2001, 24, WIDE)
+    yield "fill-6-5", fill_refused(0, 23, WIDE)
+    yield "fill-5", fill_refused(0, 24, WIDE)
+    yield "fill-5-at-the-first", first_off(0, WIDE)
+    yield "worked-1-5", worked_refused(2001, 149, WIDE)
+    yield "worked-6-5", worked_refused(0, 148, WIDE)
+    yield "worked-5", worked_refused(0, 149, WIDE)
+    yield "record-8-7", check(plain(3))
+    yield "record-8-10", check(changed(5, 3))
+    yield "record-7-10-term-for-head", check(plain(2))
+    yield "record-7-10-head-for-term", check(cut(5, 1))
+    yield "record-7-10-number", check(joined(WHOLE, plain(1, 0, 0)))
+    yield "record-7-10-k", check(cut(5, 2, 9))
+    yield "record-7-9-head", check(plain(1, 255, 255, 255))
+    yield "record-7-9-term", check(cut(5, 2, 0, 255, 255))
+    yield "record-10-9-number", check(("(year ++ with 3 (60 ∷ []))", YEAR + changed(3, 60)[1]))
+    yield "record-10-9-k", check(changed(6, 1, 255, 255))
+    yield "record-10-9-head-for-term", check(cut(5, 1, 255, 255, 60, 28, 0))
+    yield "record-10-9-term-for-head", check(plain(2, 0, 255, 255, 255, 255))
+    yield "record-10-head-for-term", check(cut(5, 1, 0, 0, 0, 0, 0))
+    yield "record-10-term-for-head", check(plain(2, 1, 0, 0, 0, 0))
+    yield "seek-1-book", seek(plain(3), 2001)
+    yield "seek-1-12", seek(NOTHING, -2001)
+    yield "seek-book-12", seek(TWICE, 1)
+    yield "seek-book-found", seek(TWICE, 0)
+    yield "read-6-8", read(plain(3), 23)
+    yield "read-6-7", read(plain(1), 23)
+    yield "read-6-10", read(NOTHING, 23)
+    yield "read-6-9", read(changed(3, 60), 23)
+    yield "write-1-6-list", write_refused(2001, 0, 0, 0, 0, 23, 149)
+    yield "write-1-6-buffer", write_refused(-2001, 0, 0, 0, 0, 24, 148)
+    yield "write-1-9", write_refused(2001, 60, 0, 0, 0, 24, 149)
+    yield "write-6-9-list", write_refused(0, 60, 0, 0, 0, 23, 149)
+    yield "write-6-9-buffer", write_refused(0, 0, 28, 0, 0, 24, 148)
+
+
+def limits():
+    yield "year-below", year(-2001)
+    yield "year-least", year(-2000)
+    yield "year-most", year(2000)
+    yield "year-above", year(2001)
+    for name, place in (("mean", mean), ("true", true), ("run-on", run_on)):
+        yield f"{name}-below", place(0, -5)
+        yield f"{name}-least", place(0, -4)
+        yield f"{name}-most", place(0, 370)
+        yield f"{name}-above", place(0, 371)
+    yield "term-most", term(0, 23)
+    yield "term-above", term(0, 24)
+    yield "local-day-below", local(-5, 0, 0)
+    yield "local-day-least", local(-4, 0, 0)
+    yield "local-day-most", local(370, 0, 0)
+    yield "local-day-above", local(371, 0, 0)
+    yield "local-minute-most", local(0, 1439, 0)
+    yield "local-minute-above", local(0, 1440, 0)
+    yield "local-west-most", local(0, 0, -648_000)
+    yield "local-west-beyond", local(0, 0, -648_001)
+    yield "local-east-most", local(0, 0, 648_000)
+    yield "local-east-beyond", local(0, 0, 648_001)
+    yield "list-23", fill_refused(0, 23)
+    yield "list-24", fill_refused(0, 24)
+    yield "buffer-148", worked_refused(0, 148)
+    yield "buffer-149", worked_refused(0, 149)
+    yield "number-0", check(changed(1, *two_bytes(0)))
+    yield "number-4000", check(changed(1, *two_bytes(4000)))
+    yield "number-4001", check(changed(1, *two_bytes(4001)))
+    yield "name-59", check(changed(3, 59))
+    yield "name-60", check(changed(3, 60))
+    yield "mansion-27", check(changed(4, 27))
+    yield "mansion-28", check(changed(4, 28))
+    yield "day-374", check(changed(7, *two_bytes(374)))
+    yield "day-375", check(changed(7, *two_bytes(375)))
+    yield "minute-1439", check(changed(9, *two_bytes(1439)))
+    yield "minute-1440", check(changed(9, *two_bytes(1440)))
+    yield "last-k-24", check(changed(144, 24))
+    yield "read-list-23", read(WHOLE, 23)
+    yield "read-list-24", read(WHOLE, 24)
+    yield "read-number-0", read(changed(1, *two_bytes(0)), 24)
+    yield "read-no-bytes", read(NOTHING, 24)
+    yield "write-least", write_refused(-2000, 0, 0, -4, 0, 24, 149)
+    yield "write-most", write_refused(2000, 59, 27, 370, 1439, 24, 149)
+    yield "write-list-23", write_refused(2000, 59, 27, 370, 1439, 23, 149)
+    yield "write-buffer-148", write_refused(2000, 59, 27, 370, 1439, 24, 148)
+    yield "write-name-60", write_refused(2000, 60, 27, 370, 1439, 24, 149)
+    yield "write-mansion-28", write_refused(2000, 59, 28, 370, 1439, 24, 149)
+    yield "write-day-below", write_refused(2000, 59, 27, -5, 1439, 24, 149)
+    yield "write-day-above", write_refused(2000, 59, 27, 371, 1439, 24, 149)
+    yield "write-minute-1440", write_refused(2000, 59, 27, 370, 1440, 24, 149)
+    yield "write-last-most", write_last_refused(370, 1439)
+    yield "write-last-day-above", write_last_refused(371, 1439)
+    yield "write-last-minute-1440", write_last_refused(370, 1440)
+
+
+def edges():
+    for name, arc in (("0", 0), ("before-10", SINE_STEP - 1), ("10", SINE_STEP), ("before-90", QUARTER - 1), ("90", QUARTER)):
+        yield f"sine-{name}", f"sine {arc:_} ≡ {expected.sine(arc):_}"
+    for tangent in (0, 1, 2908, 2909, 378_334, 378_335):
+        yield f"angle-{tangent}", f"angle {tangent:_} ≡ {expected.angle(tangent):_}"
+    for name, arc in (("0", 0), ("90", QUARTER), ("180", HALF), ("270", 3 * QUARTER)):
+        yield f"before-{name}", equation(arc - MINUTE)
+        yield f"after-{name}", equation(arc + MINUTE)
+    yield "at-360", equation(CIRCLE)
+    yield "at-390", equation(CIRCLE + 30 * DEGREE)
+    yield "at-30-below-0", equation(-30 * DEGREE)
+    yield "last-entry", equation(89 * DEGREE, "189_134")
+    yield "past-the-last-entry", equation(QUARTER, "189_168")
+    for longitude in (7, 8, 22, 23):
+        for side in (1, -1):
+            name = f"clock-{'east' if side > 0 else 'west'}-{longitude}"
+            yield name, f"clockOfArc {given(side * longitude)} ≡ {signed(expected.clock_seconds(side * longitude))}"
+    yield "local-day-before", local(-4, 0, -648_000)
+    yield "local-day-after", local(370, 1439, 648_000)
+    yield "local-second-before", local(0, 0, -8)
+    yield "local-second-after", local(0, 1439, 15 * 60 - 8)
+    yield "local-minute-after", local(0, 1439, 15 * 60 - 7)
+
+
+def lines():
+    for written, name in REFUSED_TEXTS.items():
+        yield f"{name} = {listed(written)}"
+    yield "six", output(b"\n".join(expected.DOCUMENT_LINES))
+    yield "five-digits", output(b"12345\n")
+    yield "minus-and-five-digits", output(b"-12345\n")
+    yield "minus-zero", output(b"-0\n")
+    yield "leading-zeros", output(b"0001\n")
+    yield "minus-and-leading-zeros", output(b"-0001\n")
+    yield "minus-alone", output(b"-\n")
+    yield "two-minuses", output(b"--1\n")
+    yield "minus-after", output(b"1-\n")
+    yield "before-the-digits", output(b"/\n")
+    yield "after-the-digits", output(b":\n")
+    yield "eight-and-nine", output(b"89\n")
+    yield "least", output(b"-2000\n")
+    yield "most", output(b"2000\n")
+    yield "empty", output(b"\n")
+    yield "two-empty", output(b"\n\n")
+    yield "no-input", output(b"")
+    yield "last-without-newline", output(b"1\n-1")
+    yield "midnight", output(b"-44\n")
+    yield "hour-21-minute-0", output(b"-28\n")
+    yield "hour-9-minute-0", output(b"36\n")
+    yield "name-59", output(b"-13\n")
+    yield "name-9", output(b"69\n")
+    yield "mansion-27", output(b"-6\n")
+    yield "asks-least", asks(b"-2000")
+    yield "asks-below", asks(b"-2001")
+    yield "asks-most", asks(b"2000")
+    yield "asks-above", asks(b"2001")
+    yield "asks-nothing", asks(b"")
+    for name, part, whole in (("hour", 0, 24), ("minute", 1, 1440)):
+        second, last = -(-expected.DAY // whole), -(-expected.DAY * (whole - 1) // whole)
+        yield f"{name}-0", clock(f"{name}Of", part, second - 1)
+        yield f"{name}-1", clock(f"{name}Of", part, second)
+        yield f"{name}-last-but-one", clock(f"{name}Of", part, last - 1)
+        yield f"{name}-last", clock(f"{name}Of", part, last)
+        yield f"{name}-before-midnight", clock(f"{name}Of", part, expected.DAY - 1)
+    yield "minute-60", clock("minuteOf", 1, -(-expected.DAY // 24))
+    # no fraction's minutes, and of the hours no other's than hour-last-but-one's, come nearer to whole ones from below
+    yield "minute-nearest", clock("minuteOf", 1, 4_861_111)
+
+
+def books():
+    values = [expected.term_values(0, k) for k in range(24)]
+    head = f"theHead {given(0)} {expected.day_name(0)} {expected.mansion(0)}"
+    assert read_year(YEAR, 24) == ((0, expected.day_name(0), expected.mansion(0)), [(*value[:2], 0) for value in values])
+    yield f"year = {listed(YEAR)}"
+    yield "terms = " + " ∷ ".join([*(term_text(value)[1:-1] for value in values), "[]"])
+    yield "worked-terms", "fillAnswer epicycles (pos 0) 24 ≡ value terms"
+    yield "worked-year", "workedAnswer epicycles (pos 0) (replicate 149 0 ++ (7 ∷ 8 ∷ [])) ≡ value (year ++ (7 ∷ 8 ∷ []))"
+    yield "written", f"writeAnswer (bookYear ({head}) terms) (replicate 149 0 ++ (7 ∷ 8 ∷ [])) ≡ value (year ++ (7 ∷ 8 ∷ []))"
+    yield "head-read", f"headRead (readAnswer year 24) year ≡ {head}"
+    yield "terms-read", "termsRead (readAnswer year 24) year ≡ value (map uncounted terms)"
+    yield "whole", check(WHOLE)
+    yield "none", check(NOTHING)
+    yield "no-kind", check(changed(0, 3))
+    yield "cut-inside-a-record", check(first(8))
+    yield "head-twice", check(("(take 5 year ++ year)", YEAR[:5] + YEAR))
+    yield "wrong-k", check(changed(6, 1))
+    yield "year-twice", check(joined(WHOLE, WHOLE))
+    yield "cut-between-records", check(first(11))
+    yield "day-name-60", check(changed(3, 60))
+    yield "minute-1440", check(changed(9, *two_bytes(1440)))
+
+
+def handed():
+    for name, book in NAMED.items():
+        yield f"{name} = {book}"
+    yield "first", call(THREE, 0, 0)
+    yield "second", call(THREE, 149, 2001)
+    yield "third", call(THREE, 298, 2002)
+    yield "end", call(THREE, 447, 2003)
+    yield "past-the-end", call(THREE, 448, 2003)
+    yield "out-of-turn", call(TWICE, 149, 2001)
+    yield "cut", call(BROKEN, 149, 2001)
+    yield "of-nothing", call(NOTHING, 0, 0)
+    yield "three-sound", check(THREE)
+    yield "broken-at", check(BROKEN)
+    yield "parts-of-three", parts(THREE)
+    yield "parts-of-twice", parts(TWICE)
+    yield "parts-together", "together (partsOf three) ≡ three"
+    yield "seek-first", seeking(THREE, 0)
+    yield "seek-second", seeking(THREE, 1)
+    yield "seek-absent", seeking(THREE, 3)
+    yield "seek-in-twice", seeking(TWICE, 0)
+    yield "seek-in-nothing", seeking(NOTHING, 0)
+
+
+WORKED_FILES = {
+    "WorkedTerms": terms,
+    "WorkedBooks": books,
+    "WorkedParts": handed,
+    "WorkedLines": lines,
+    "WorkedOrders": orders,
+    "WorkedLimits": limits,
+    "WorkedEdges": edges,
+}
+
+
+def rows(file):
+    for row in WORKED_FILES[file]():
+        yield row if isinstance(row, str) else f"pub {row[0]} : {row[1]}"
+
+
+def missing_rows():
+    """The rows that are no line of their file."""
+    for file in WORKED_FILES:
+        path = f"crates/law/proofs/{file}.antt"
+        stored = [line.strip() for line in (expected.ROOT_FOLDER / path).read_text().split("\n")]
+        yield from (f"{path}: {row}" for row in rows(file) if row not in stored)
+
+
+if __name__ == "__main__":
+    for file in WORKED_FILES:
+        print(f"-- {file}")
+        for row in rows(file):
+            print(f"  {row}")
