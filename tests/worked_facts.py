@@ -8,7 +8,7 @@ expected.py --check holds each file to its rows.
 
 import expected
 from expected import CIRCLE, DEGREE, HALF, MINUTE, QUARTER, SINE_STEP, Refused
-from term_book import number_at, read_year, two_bytes, write_values, write_year, year_bytes, year_end, years_of
+from term_book import first_year_asked, number_at, read_year, two_bytes, write_values, write_year, year_bytes, year_end, years_of
 
 # How the definitions write a value.
 
@@ -276,14 +276,18 @@ def output(lines):
     return f"output {given_line(lines)} ≡ {text_of(expected.answers_to(lines))}"
 
 
-def year_asked(line):
-    n = expected.year_asked(line)
+def in_range(asked, line):
+    n = asked(line)
     expected.require_year(n)
     return n
 
 
 def asks(line):
-    return f"lineAsks {given_line(line)} ≡ {answered(given, year_asked, line)}"
+    return f"lineAsks {given_line(line)} ≡ {answered(given, in_range, expected.year_asked, line)}"
+
+
+def first_asks(lines):
+    return f"firstAsks {given_line(lines)} ≡ {answered(given, in_range, first_year_asked, lines)}"
 
 
 def clock(name, part, fraction):
@@ -469,6 +473,10 @@ def lines():
     yield "asks-most", asks(b"2000")
     yield "asks-above", asks(b"2001")
     yield "asks-nothing", asks(b"")
+    yield "first-of-none", first_asks(b"")
+    yield "first-empty", first_asks(b"\n0\n")
+    yield "first-of-two", first_asks(b"-676\nx")
+    yield "first-without-newline", first_asks(b"0")
     for name, part, whole in (("hour", 0, 24), ("minute", 1, 1440)):
         second, last = -(-expected.DAY // whole), -(-expected.DAY * (whole - 1) // whole)
         yield f"{name}-0", clock(f"{name}Of", part, second - 1)

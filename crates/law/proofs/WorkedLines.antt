@@ -1,5 +1,5 @@
 -- Document 01's six lines have the six answers that it gives; and lines at the edges, each with its newline unless its name says
--- otherwise. The rows are the independent program's (tests/worked_facts.py). Assumes nothing.
+-- otherwise; and what the first line of an input asks. The rows are the independent program's (tests/worked_facts.py). Assumes nothing.
 use mathlib.Core.Path.{_≡_, refl}
 use mathlib.Core.List.{List, [], _∷_}
 use Prim.Native.Nat.{ℕ}
@@ -7,7 +7,7 @@ use lib.IntN.{pos, negℤ}
 use Rattle.law.specs.Round.{halfUp, floorDiv, floorMod}
 use Rattle.law.specs.Answer.{value, refused}
 use Rattle.law.specs.Document.{solstice, dayName, fraction, mansion, root, yearAnswer}
-use Rattle.law.specs.Request.{numberFrom, lineAsks, digitsOf, signedDigits, hourOf, minuteOf, yearText, refusedText, answerText, linesFrom, writtenFor, output}
+use Rattle.law.specs.Request.{numberFrom, lineAsks, digitsOf, signedDigits, hourOf, minuteOf, yearText, refusedText, answerText, linesFrom, writtenFor, output, firstAsks}
 
 abbrev refused-1 : List ℕ
 refused-1 = 114 ∷ 101 ∷ 102 ∷ 117 ∷ 115 ∷ 101 ∷ 100 ∷ 32 ∷ 49 ∷ 10 ∷ []
@@ -50,6 +50,11 @@ pub record WorkedLines : Type 0 where
   pub asks-most : lineAsks (50 ∷ 48 ∷ 48 ∷ 48 ∷ []) ≡ value (pos 2_000)
   pub asks-above : lineAsks (50 ∷ 48 ∷ 48 ∷ 49 ∷ []) ≡ refused 1
   pub asks-nothing : lineAsks [] ≡ refused 11
+  -- what the first line asks: of no input, of a newline and `0`, of `-676` and `x`, and of `0` without its newline
+  pub first-of-none : firstAsks [] ≡ refused 11
+  pub first-empty : firstAsks (10 ∷ 48 ∷ 10 ∷ []) ≡ refused 11
+  pub first-of-two : firstAsks (45 ∷ 54 ∷ 55 ∷ 54 ∷ 10 ∷ 120 ∷ []) ≡ value (negℤ (pos 676))
+  pub first-without-newline : firstAsks (48 ∷ []) ≡ value (pos 0)
   -- hours and minutes of fractions of a day, from both sides
   pub hour-0 : hourOf 41_666_666 ≡ 0
   pub hour-1 : hourOf 41_666_667 ≡ 1
@@ -97,6 +102,10 @@ worked-lines =
       asks-most = refl;
       asks-above = refl;
       asks-nothing = refl;
+      first-of-none = refl;
+      first-empty = refl;
+      first-of-two = refl;
+      first-without-newline = refl;
       hour-0 = refl;
       hour-1 = refl;
       hour-last-but-one = refl;

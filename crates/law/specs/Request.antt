@@ -1,4 +1,5 @@
--- Document 01's "Solstice program" as definitions on bytes: what a request line asks, what is written for it, the lines of an input.
+-- Document 01's "Solstice program" as definitions on bytes: what a request line asks, what is written for it, the lines of an input;
+-- and what the first of them asks, for the programs that read one line.
 -- Assumes nothing.
 use mathlib.Core.Bool.{Bool, true, false, cond, _||_}
 use mathlib.Core.List.{List, [], _∷_, _++_}
@@ -131,3 +132,14 @@ writtenFor (line ∷ lines) = answerText (lineAsks line) ++ writtenFor lines
 -- the output of an input
 abbrev pub output : List ℕ → List ℕ
 output input = writtenFor (linesFrom [] input)
+
+-- ======== The first line of an input
+
+-- what the first of some lines asks; no line at all is refused 11
+abbrev pub firstOf : List (List ℕ) → Answer ℤ
+firstOf [] = refused 11
+firstOf (line ∷ lines) = lineAsks line
+
+-- what the first line of an input asks
+abbrev pub firstAsks : List ℕ → Answer ℤ
+firstAsks input = firstOf (linesFrom [] input)

@@ -9,10 +9,14 @@ use Rattle.units.specs.Said.{saidSigned}
 use Rattle.units.proofs.HeldFast.{signedFrom, signed-back}
 use Rattle.request.specs.declared.line.Line.{Line}
 use Rattle.request.specs.declared.answers.Fed.{Fed}
+use Rattle.request.specs.declared.first.First.{First}
+use Rattle.request.specs.declared.first.First.the-variants.{Asked, Open}
 use Rattle.request.specs.Stream.{Counted, textAfter, Feeds, Ends}
+use Rattle.request.specs.First.{Reached, asks, still, saidFirst}
 use Rattle.request.proofs.line.line_step as line-step
 use Rattle.request.proofs.line.line_end as line-end
 use Rattle.request.proofs.line.asked_by as asked-by
+use Rattle.request.proofs.first.first_line as first-line
 use Rattle.request.proofs.answers.feed as feed
 use Rattle.request.proofs.answers.finish as finish
 
@@ -36,6 +40,16 @@ one-end : {text out o o′ : List ℕ} {n m : ℕ} → Ends text out o n → End
 one-end {text} {out} {o} {o′} {n} {m} f g =
     one-buffer out o o′ text n m (f .first) (f .counts) (f .rest) (g .first) (g .counts) (g .rest)
 
+-- the reading of a first line can be taken back
+firstFrom : Reached → First
+firstFrom (asks asked) = Asked (signedFrom asked)
+firstFrom (still line) = Open line
+
+first-back : (first : First) → firstFrom (saidFirst first) ≡ first
+unfolding firstFrom
+first-back (Asked asked) = ap Asked (signed-back asked)
+first-back (Open line) = refl
+
 -- ---- the functions
 
 pub line-step-held : Held line-step.ended (λ M. line-step.clauses {M = M})
@@ -46,6 +60,9 @@ line-end-held M 𝓤 H A mem run κs a = by-facts 𝓤 (λ z z′ w w′ p q. (o
 
 pub asked-by-held : Held asked-by.ended (λ M. asked-by.clauses {M = M})
 asked-by-held M 𝓤 H A mem run κs a = by-facts 𝓤 (λ z z′ w w′ p q. (one-said saidSigned signedFrom signed-back p q, refl))
+
+pub first-line-held : Held first-line.ended (λ M. first-line.clauses {M = M})
+first-line-held M 𝓤 H A mem run κs a = by-facts 𝓤 (λ z z′ w w′ p q. (one-said saidFirst firstFrom first-back p q, refl))
 
 pub feed-held : Held feed.ended (λ M. feed.clauses {M = M})
 feed-held M 𝓤 H A mem run κs a = by-facts 𝓤 (λ z z′ w w′ p q. let e = one-fed p q in (e .0, pair≡ refl (pair≡ refl (pair≡ (e .1) refl))))

@@ -41,7 +41,7 @@ at-end (b ∷ bs) =
 
 -- ---- byte by byte
 
-one-more : (line : Line) (bytes : List ℕ) (b : ℕ) → lineAfter line (bytes ++ (b ∷ [])) ≡ lineStep (lineAfter line bytes) b
+pub one-more : (line : Line) (bytes : List ℕ) (b : ℕ) → lineAfter line (bytes ++ (b ∷ [])) ≡ lineStep (lineAfter line bytes) b
 unfolding lineAfter
 one-more line [] b = refl
 one-more line (x ∷ xs) b = one-more (lineStep line x) xs b

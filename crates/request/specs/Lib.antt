@@ -1,3 +1,4 @@
 pub mod Reading
 pub mod Texts
 pub mod Stream
+pub mod First

@@ -1,45 +1,46 @@
--- The loop counts k up to 24. Assumes nothing.
-use borrow.Author.Needs.{needs}
-use Prim.Native.Nat.{_≤_, _-_}
+-- Each term takes at most 460 bytes of the page. Assumes nothing.
+use mathlib.Core.Path.{_≡_, refl, sym, _∙_}
+use Prim.Native.Nat.{_+_, _*_, _-_, _≤_}
 use native.Mathlib.Omega.{arith}
+use lib.ListN.{length, length-map}
 use Rattle.ring.proofs.drawing.terms.Statement.{statement}
 use Rattle.ring.proofs.drawing.terms.Tie as tie
 
 abbrev Inv-loop : tie.InvT-loop
-Inv-loop n k₀ k = k ≤ 24
+Inv-loop page₀ at found end₀ k₀ page end k = (k ≤ 24) × (end ≤ at + 460 * k) × (length page ≡ length page₀)
 
 abbrev μ-loop : tie.MeasureT-loop
-μ-loop n k₀ k = 24 - k
+μ-loop page₀ at found end₀ k₀ page end k = 24 - k
+
+all-24 : (c : tie.Start Inv-loop μ-loop) → length (c .args .t3 .at) ≡ 24
+all-24 c = sym (length-map (c .args .t3 .at) _) ∙ c .good .1 .1 .0 .1 .1 .1 .0 .1 .0 .1
 
 loop-holds : tie.Need-loop-holds Inv-loop μ-loop
-loop-holds c = search needs
+loop-holds c = (omega arith, omega arith, refl)
 
-term-of-requires : tie.Need-term-of-requires Inv-loop μ-loop
-term-of-requires c κs = search needs
+mul-record : tie.Need-mul-record Inv-loop μ-loop
+mul-record c = omega arith
 
-enum-known-found : tie.Need-enum-known-found Inv-loop μ-loop
-enum-known-found c = search needs
+element-copy-out-record : tie.Need-element-copy-out-record Inv-loop μ-loop
+element-copy-out-record c = omega (arith, all-24 (c .before .before .before))
 
 term-requires : tie.Need-term-requires Inv-loop μ-loop
-term-requires c κs = omega arith
-
-enum-known-refusal : tie.Need-enum-known-refusal Inv-loop μ-loop
-enum-known-refusal c = search needs
-
-refused-requires : tie.Need-refused-requires Inv-loop μ-loop
-refused-requires c κs = search needs
+term-requires c κs = (omega arith, omega arith)
 
 add-k : tie.Need-add-k Inv-loop μ-loop
-add-k c = search needs
+add-k c = omega arith
 
 loop-less : tie.Need-loop-less Inv-loop μ-loop
-loop-less c = search needs
+loop-less c = omega arith
 
 loop-again : tie.Need-loop-again Inv-loop μ-loop
-loop-again c = search needs
+loop-again c = (omega arith, omega arith, omega arith)
+
+same-length : tie.Need-same-length Inv-loop μ-loop
+same-length c = omega arith
 
 returns : tie.Need-returns Inv-loop μ-loop
-returns c = search needs
+returns c = omega arith
 
 pub terms-spec : {M : Type 1} → statement M
 terms-spec =
@@ -48,12 +49,11 @@ terms-spec =
     Inv-loop
     μ-loop
     loop-holds
-    term-of-requires
-    enum-known-found
+    mul-record
+    element-copy-out-record
     term-requires
-    enum-known-refusal
-    refused-requires
     add-k
     loop-less
     loop-again
+    same-length
     returns)

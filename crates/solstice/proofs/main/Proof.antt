@@ -2,8 +2,8 @@
 use mathlib.Core.Path.{_≡_, refl}
 use lib.ListN.{length}
 use native.Mathlib.Omega.{arith}
-use Rattle.solstice.proofs.answer_lines.Statement.{statement}
-use Rattle.solstice.proofs.answer_lines.Tie as tie
+use Rattle.solstice.proofs.main.Statement.{statement}
+use Rattle.solstice.proofs.main.Tie as tie
 
 abbrev Inv-loop : tie.InvT-loop
 Inv-loop block₀ out₀ line₀ turns₀ block out line turns = (2048 ≡ length block) × (65536 ≡ length out)
@@ -26,12 +26,6 @@ turn-requires c κs = tt
 returns : tie.Need-returns Inv-loop μ-loop
 returns c = tt
 
-last-requires : tie.Need-last-requires Inv-loop μ-loop
-last-requires c κs = tt
-
-returns-2 : tie.Need-returns-2 Inv-loop μ-loop
-returns-2 c = tt
-
 sub-turns : tie.Need-sub-turns Inv-loop μ-loop
 sub-turns c = omega arith
 
@@ -39,16 +33,13 @@ loop-less : tie.Need-loop-less Inv-loop μ-loop
 loop-less c = omega arith
 
 loop-again : tie.Need-loop-again Inv-loop μ-loop
-loop-again c = (omega (arith, c .before .before .before .before .turn), omega (arith, c .before .before .before .before .turn))
+loop-again c = let t = c .before .before .before .before .turn in (omega (arith, t), omega (arith, t))
 
-last-requires-2 : tie.Need-last-requires-2 Inv-loop μ-loop
-last-requires-2 c κs = tt
+returns-2 : tie.Need-returns-2 Inv-loop μ-loop
+returns-2 c = tt
 
-returns-3 : tie.Need-returns-3 Inv-loop μ-loop
-returns-3 c = tt
-
-pub answer-lines-spec : {M : Type 1} → statement M
-answer-lines-spec =
+pub main-spec : {M : Type 1} → statement M
+main-spec =
     tie.close
     (tie.spec
     Inv-loop
@@ -58,10 +49,7 @@ answer-lines-spec =
     slice-aggregate-turn-2
     turn-requires
     returns
-    last-requires
-    returns-2
     sub-turns
     loop-less
     loop-again
-    last-requires-2
-    returns-3)
+    returns-2)
