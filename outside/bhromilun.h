@@ -60,6 +60,22 @@ uint64_t bhromilun_check_book(const uint8_t *bytes, size_t length, size_t *byte)
 uint64_t bhromilun_seek_year(const uint8_t *bytes, size_t length, int64_t n,
                              size_t *start, size_t *end, size_t *byte);
 
+/* Reads the year at the start of the bytes; what follows it is not looked at. Answering 0, it stores
+   N, day name, mansion, the day and minute of each of the 24 terms, and in end the byte after the year,
+   where a next one would start; byte stays as it was. Refusing, it stores in byte the first byte of the
+   record at fault, and nothing else. Refuses 7, 8, 9, 10; no bytes at all are refused 10 at byte 0.
+   That years rise in a book is the whole book's matter: bhromilun_check_book. */
+uint64_t bhromilun_read_year(const uint8_t *bytes, size_t length,
+                             int64_t *n, uint64_t *day_name, uint64_t *mansion,
+                             int64_t days[24], uint64_t minutes[24], size_t *end, size_t *byte);
+
+/* Fills the first 149 bytes of the buffer with the year of these values; later bytes stay. Refuses 1;
+   then 6 for a buffer under 149 bytes; then 9 for a day name above 59, a mansion above 27, a day outside
+   -4 to 370 or a minute above 1,439. A refusal alters no byte. */
+uint64_t bhromilun_write_year_from(int64_t n, uint64_t day_name, uint64_t mansion,
+                                   const int64_t days[24], const uint64_t minutes[24],
+                                   uint8_t *buffer, size_t length);
+
 #ifdef __cplusplus
 }
 #endif

@@ -1,5 +1,6 @@
 /* Prints the 24 terms of the epoch year 1684 with the number of each day's name and the time at the
-   capital, and what a year out of range is answered. examples/year.rs does the same in Rust. */
+   capital, what its term book reads as, sound and damaged, and what a year out of range is answered.
+   examples/year.rs does the same in Rust. */
 
 #include <inttypes.h>
 #include <stdio.h>
@@ -30,6 +31,27 @@ int main(void)
         printf("term %2d: day %3" PRId64 ", name %2" PRIu64 ", %02" PRIu64 ":%02" PRIu64 "\n",
                k, days[k], name, minutes[k] / 60, minutes[k] % 60);
     }
+
+    uint8_t book[149];
+    int64_t read;
+    size_t end, byte;
+    refused = bhromilun_write_year(n, book, sizeof book);
+    if (refused != 0) {
+        printf("refused %" PRIu64 "\n", refused);
+        return 1;
+    }
+    refused = bhromilun_read_year(book, sizeof book, &read, &day_name, &mansion, days, minutes,
+                                  &end, &byte);
+    if (refused != 0) {
+        printf("refused %" PRIu64 " at byte %zu\n", refused, byte);
+        return 1;
+    }
+    printf("book: year %" PRId64 ", term 23 on day %" PRId64 ", %zu bytes after it\n",
+           read, days[23], sizeof book - end);
+    book[7] = 2; /* term 0 on day 511 */
+    refused = bhromilun_read_year(book, sizeof book, &read, &day_name, &mansion, days, minutes,
+                                  &end, &byte);
+    printf("damaged book: refused %" PRIu64 " at byte %zu\n", refused, byte);
 
     refused = bhromilun_year(2001, &day_name, &fraction, &mansion);
     printf("year 2001: refused %" PRIu64 "\n", refused);

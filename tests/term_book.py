@@ -44,11 +44,9 @@ def write_year(n, buffer, room):
     return into(buffer, room, year_bytes(n))
 
 
-def write_values(n, name, house, day, minute, listed, buffer, room):
-    """From a list of so many equal terms."""
+def write_values(n, name, house, day, minute, buffer, room):
+    """From equal terms."""
     day_name(n)  # refuses 1
-    if listed < 24:
-        raise Refused(6)
     into(buffer, room, bytes(149))  # refuses 6
     if name > 59 or house > 27 or not -4 <= day <= 370 or minute > 1439:
         raise Refused(9)
@@ -58,12 +56,11 @@ def write_values(n, name, house, day, minute, listed, buffer, room):
 def written_lines():
     buffer = bytes([238] * 152)
     years = [(-2001, 152), (-2000, 149), (-676, 150), (-1, 152), (0, 149), (0, 148), (0, 0), (1, 152), (2000, 152), (2001, 148)]
-    values = [(-2000, 0, 0, -4, 0, 24, 149), (2000, 59, 27, 370, 1439, 26, 152), (2001, 60, 28, 371, 1440, 23, 148)]
-    values += [(2000, 60, 28, 371, 1440, 24, 148), (2000, 60, 28, 371, 1440, 23, 149), (2000, 59, 27, 370, 1439, 23, 149)]
-    values += [(2000, 59, 27, 370, 1439, 0, 152), (2000, 60, 27, 370, 1439, 24, 149), (2000, 59, 28, 370, 1439, 25, 149)]
-    values += [(2000, 59, 27, 371, 1439, 24, 149), (2000, 59, 27, -5, 1439, 24, 149), (2000, 59, 27, 370, 1440, 24, 149)]
+    values = [(-2000, 0, 0, -4, 0, 149), (2000, 59, 27, 370, 1439, 152), (2001, 60, 28, 371, 1440, 148)]
+    values += [(2000, 60, 28, 371, 1440, 148), (2000, 60, 27, 370, 1439, 149), (2000, 59, 28, 370, 1439, 149)]
+    values += [(2000, 59, 27, 371, 1439, 149), (2000, 59, 27, -5, 1439, 149), (2000, 59, 27, 370, 1440, 149)]
     calls = [(f"year {n} in {room}", write_year, (n, buffer, room)) for n, room in years]
-    calls += [("values {} {} {} {} {} of {} in {}".format(*v), write_values, (*v[:6], buffer, v[6])) for v in values]
+    calls += [("values {} {} {} {} {} in {}".format(*v), write_values, (*v[:5], buffer, v[5])) for v in values]
     for name, call, given in calls:
         try:
             yield f"{name}: done {call(*given).hex()}"
@@ -134,25 +131,22 @@ def sought(book, n):
     raise Refused(12)
 
 
-def read_year(book, room):
-    """N, day name, mansion and 24 records of the first year, for a list of so many."""
-    if room < 24:
-        raise Refused(6)
+def read_year(book):
+    """N, day name, mansion and the 24 terms of the first year, each with a count of 0."""
     year_end(book, 0, -1)
     moments = [(number_at(book, 6 * k + 7) - 4, number_at(book, 6 * k + 9), 0) for k in range(24)]
     return (number_at(book, 1) - 2000, book[3], book[4]), moments
 
 
-def read_line(book, room):
-    """What reading says, and of 26 records, each 7 before, four afterwards."""
-    head, records = (0, 0, 0), []
+def read_line(book):
+    """What reading says, the head and three terms; all 0 on a refusal."""
     try:
-        head, records = read_year(book, room)
+        head, moments = read_year(book)
         answer = "read"
     except Refused as refusal:
-        answer = "refused " + " at ".join(str(part) for part in refusal.args)
-    records = records + [(7, 7, 7)] * (26 - len(records))
-    return " ".join([answer, *map(str, head), *("{}:{}:{}".format(*records[k]) for k in (0, 11, 23, 24))])
+        head, moments = (0, 0, 0), [(0, 0, 0)] * 24
+        answer = "refused {} at {}".format(*refusal.args)
+    return " ".join([answer, *map(str, head), *("{}:{}:{}".format(*moments[k]) for k in (0, 11, 23))])
 
 
 def handed_out(book):
@@ -226,10 +220,8 @@ def case_input():
 
 
 def case_lines():
-    for book, room in [(BASE, 0), (BASE, 23), (BASE, 24), (BASE, 26), (b"", 23), (b"", 24)]:
-        yield f"room {room}: {read_line(book, room)}"
     for book in damaged_books():
-        answers = said(checked, book), said(sought, book, 0), read_line(book, 25), "".join(handed_out(book))
+        answers = said(checked, book), said(sought, book, 0), read_line(book), "".join(handed_out(book))
         yield " | ".join(answers)
 
 

@@ -202,25 +202,37 @@ def seeking(book, n):
     return f"Seeking {book[0]} {given(n)} ({found}) {PARTS[book[1][start:end]]} {start}"
 
 
+def require_list(records):
+    if records < 24:
+        raise Refused(6)
+
+
 def read(book, room):
     try:
-        read_year(book[1], room)
+        require_list(room)
+        read_year(book[1])
         found = "value (sound 149)"
     except Refused as refusal:
         found = f"refused {refusal.args[0]}" if len(refusal.args) == 1 else "value (faulty {} {})".format(*refusal.args)
     return f"readAnswer {book[0]} {room} ≡ {found}"
 
 
+def write_listed(n, name, mansion, day, minute, count, room):
+    """From a list of so many equal terms."""
+    expected.require_year(n)
+    require_list(count)
+    return write_values(n, name, mansion, day, minute, bytes(room), room)
+
+
 def write_refused(n, name, mansion, day, minute, count, room):
-    """Of a list of so many equal terms."""
-    number = number_of(write_values, n, name, mansion, day, minute, count, bytes(room), room)
+    number = number_of(write_listed, n, name, mansion, day, minute, count, room)
     values = f"values {given(n)} {name} {mansion} {given(day)} {minute:_} {count}"
     return f"refusalIn (writeAnswer ({values}) (replicate {room} 0)) ≡ {number}"
 
 
 def write_last_refused(day, minute):
     """Of 24 terms of which only the last is of that day and minute: one term is refused as 24 of them are."""
-    number = number_of(write_values, 0, 0, 0, day, minute, 24, bytes(149), 149)
+    number = number_of(write_values, 0, 0, 0, day, minute, bytes(149), 149)
     return f"refusalIn (writeAnswer (lastAlone {given(day)} {minute:_}) (replicate 149 0)) ≡ {number}"
 
 
@@ -492,7 +504,7 @@ def lines():
 def books():
     values = [expected.term_values(0, k) for k in range(24)]
     head = f"theHead {given(0)} {expected.day_name(0)} {expected.mansion(0)}"
-    assert read_year(YEAR, 24) == ((0, expected.day_name(0), expected.mansion(0)), [(*value[:2], 0) for value in values])
+    assert read_year(YEAR) == ((0, expected.day_name(0), expected.mansion(0)), [(*value[:2], 0) for value in values])
     yield f"year = {listed(YEAR)}"
     yield "terms = " + " ∷ ".join([*(term_text(value)[1:-1] for value in values), "[]"])
     yield "worked-terms", "fillAnswer epicycles (pos 0) 24 ≡ value terms"

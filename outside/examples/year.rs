@@ -1,5 +1,6 @@
 //! Prints the 24 terms of the epoch year 1684 with the number of each day's name and the time at the
-//! capital, and what a year out of range is answered. example.c does the same in C.
+//! capital, what its term book reads as, sound and damaged, and what a year out of range is answered.
+//! example.c does the same in C.
 
 use outside::{wall, Refusal};
 
@@ -12,6 +13,15 @@ fn main() -> Result<(), Refusal> {
         let day_name = (solstice.day_name as i64 + 1 + term.day).rem_euclid(60);
         let (hour, minute) = (term.minute / 60, term.minute % 60);
         println!("term {k:2}: day {:3}, name {day_name:2}, {hour:02}:{minute:02}", term.day);
+    }
+    let mut book = [0; 149];
+    wall::write_year(n, &mut book)?;
+    let (year, rest) = wall::read_year(&book)?;
+    let day = year.terms[23].day;
+    println!("book: year {}, term 23 on day {day}, {} bytes after it", year.n, rest.len());
+    book[7] = 2; // term 0 on day 511
+    if let Err(Refusal { number, byte: Some(byte) }) = wall::read_year(&book) {
+        println!("damaged book: refused {number} at byte {byte}");
     }
     if let Err(refusal) = wall::year(2_001) {
         println!("year 2001: refused {}", refusal.number);

@@ -42,3 +42,12 @@ pub struct Moment {
     pub day: i64,
     pub minute: u64,
 }
+
+/// The values of a year in a term book; its terms are in order, term 0 first.
+#[derive(Clone, Copy, Debug, Default, PartialEq, Eq)]
+pub struct Year {
+    pub n: i64,
+    pub day_name: u64,
+    pub mansion: u64,
+    pub terms: [Moment; 24],
+}

@@ -2,7 +2,7 @@
 //! caller sees what a refusal leaves as it was; the functions of this file give a `Result` instead.
 //! Nothing here is unsafe to call: a reference or a slice is always a valid pointer.
 
-use crate::{Moment, Refusal, Solstice, Term};
+use crate::{Moment, Refusal, Solstice, Term, Year};
 
 /// Each call answers 0 or the refusal's number, and stores the rest through its last parameters.
 pub mod plain {
@@ -46,6 +46,26 @@ pub mod plain {
                 start: &mut usize,
                 end: &mut usize,
                 byte: &mut usize,
+            ) -> u64;
+            pub fn bhromilun_read_year(
+                bytes: *const u8,
+                length: usize,
+                n: &mut i64,
+                day_name: &mut u64,
+                mansion: &mut u64,
+                days: &mut [i64; 24],
+                minutes: &mut [u64; 24],
+                end: &mut usize,
+                byte: &mut usize,
+            ) -> u64;
+            pub fn bhromilun_write_year_from(
+                n: i64,
+                day_name: u64,
+                mansion: u64,
+                days: &[i64; 24],
+                minutes: &[u64; 24],
+                buffer: *mut u8,
+                length: usize,
             ) -> u64;
         }
     }
@@ -107,6 +127,40 @@ pub mod plain {
         byte: &mut usize,
     ) -> u64 {
         unsafe { library::bhromilun_seek_year(bytes.as_ptr(), bytes.len(), n, start, end, byte) }
+    }
+
+    /// All but `byte` are stored where the year is sound, `byte` alone where it is at fault.
+    #[allow(clippy::too_many_arguments)]
+    pub fn read_year(
+        bytes: &[u8],
+        n: &mut i64,
+        day_name: &mut u64,
+        mansion: &mut u64,
+        days: &mut [i64; 24],
+        minutes: &mut [u64; 24],
+        end: &mut usize,
+        byte: &mut usize,
+    ) -> u64 {
+        let (start, length) = (bytes.as_ptr(), bytes.len());
+        unsafe {
+            library::bhromilun_read_year(
+                start, length, n, day_name, mansion, days, minutes, end, byte,
+            )
+        }
+    }
+
+    pub fn write_year_from(
+        n: i64,
+        day_name: u64,
+        mansion: u64,
+        days: &[i64; 24],
+        minutes: &[u64; 24],
+        buffer: &mut [u8],
+    ) -> u64 {
+        let (start, length) = (buffer.as_mut_ptr(), buffer.len());
+        unsafe {
+            library::bhromilun_write_year_from(n, day_name, mansion, days, minutes, start, length)
+        }
     }
 }
 
@@ -194,6 +248,41 @@ pub fn seek_year(bytes: &[u8], n: i64) -> Result<&[u8], Refusal> {
     match plain::seek_year(bytes, n, &mut start, &mut end, &mut byte) {
         0 => Ok(&bytes[start..end]),
         number @ 7..=10 => Err(Refusal { number, byte: Some(byte) }),
+        number => Err(Refusal::number(number)),
+    }
+}
+
+/// The year at the start of the bytes, and the bytes after it; else refusal 7 to 10 with the byte of
+/// the record at fault.
+pub fn read_year(bytes: &[u8]) -> Result<(Year, &[u8]), Refusal> {
+    let mut year = Year::default();
+    let (mut days, mut minutes) = ([0; 24], [0; 24]);
+    let (mut end, mut byte) = (0, 0);
+    let number = plain::read_year(
+        bytes,
+        &mut year.n,
+        &mut year.day_name,
+        &mut year.mansion,
+        &mut days,
+        &mut minutes,
+        &mut end,
+        &mut byte,
+    );
+    if number != 0 {
+        return Err(Refusal { number, byte: Some(byte) });
+    }
+    for (k, term) in year.terms.iter_mut().enumerate() {
+        *term = Moment { day: days[k], minute: minutes[k] };
+    }
+    Ok((year, &bytes[end..]))
+}
+
+/// Fills the first 149 bytes with the year's book and hands them out, or refusal 1, 6 or 9.
+pub fn write_year_from<'a>(year: &Year, buffer: &'a mut [u8]) -> Result<&'a [u8], Refusal> {
+    let days = year.terms.map(|term| term.day);
+    let minutes = year.terms.map(|term| term.minute);
+    match plain::write_year_from(year.n, year.day_name, year.mansion, &days, &minutes, buffer) {
+        0 => Ok(&buffer[..149]),
         number => Err(Refusal::number(number)),
     }
 }

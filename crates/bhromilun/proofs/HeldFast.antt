@@ -11,6 +11,8 @@ use Rattle.bhromilun.proofs.reckoning.bhromilun_local_time as local-tim
 use Rattle.bhromilun.proofs.books.bhromilun_write_year as write-year
 use Rattle.bhromilun.proofs.books.bhromilun_check_book as check-book
 use Rattle.bhromilun.proofs.books.bhromilun_seek_year as seek-year
+use Rattle.bhromilun.proofs.books.bhromilun_read_year as read-year
+use Rattle.bhromilun.proofs.books.bhromilun_write_year_from as write-year-from
 
 -- two pairs of equal parts are equal
 abbrev pair : {A B : Type 0} → A → B → A × B
@@ -56,3 +58,14 @@ bhromilun-check-book-held M 𝓤 H A mem run κs a = by-facts 𝓤 (λ z z′ w 
 pub bhromilun-seek-year-held : Held seek-year.ended (λ M. seek-year.clauses {M = M})
 bhromilun-seek-year-held M 𝓤 H A mem run κs a =
     by-facts 𝓤 (λ z z′ w w′ p q. (one (p .0) (q .0), refl and refl and one (p .1) (q .1) and one (p .2) (q .2) and one (p .3) (q .3) and refl))
+
+pub bhromilun-read-year-held : Held read-year.ended (λ M. read-year.clauses {M = M})
+bhromilun-read-year-held M 𝓤 H A mem run κs a =
+    by-facts 𝓤 (λ z z′ w w′ p q. (
+      one (p .0) (q .0),
+      refl and one (p .1) (q .1) and one (p .2) (q .2) and one (p .3) (q .3) and one (p .4) (q .4) and one (p .5) (q .5) and one (p .6) (q .6) and one (p .7) (q .7) and refl,
+    ))
+
+pub bhromilun-write-year-from-held : Held write-year-from.ended (λ M. write-year-from.clauses {M = M})
+bhromilun-write-year-from-held M 𝓤 H A mem run κs a =
+    by-facts 𝓤 (λ z z′ w w′ p q. (one (p .0) (q .0), refl and refl and refl and refl and refl and one (p .1) (q .1) and refl))

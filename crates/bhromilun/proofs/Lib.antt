@@ -1,3 +1,4 @@
 pub mod Plainly
-pub mod Columns
+pub mod FilledColumns
 pub mod HeldFast
+pub mod ReturnTrips

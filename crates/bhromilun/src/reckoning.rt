@@ -1,4 +1,5 @@
 // The year, places, terms and local time.
+use crate::columns::columns_of;
 use local::LocalAnswer;
 use sun::Listed;
 use sun::TermAnswer;
@@ -6,10 +7,10 @@ use sun::YearAnswer;
 use units::ArcSeconds;
 use units::Number;
 use units::Signed;
-ghost use mathlib.Core.List.{map};
 ghost use mathlib.Core.Path.{_≡_};
 ghost use Rattle.law.specs.Answer.{refusalIn, afterwards, part};
 ghost use Rattle.law.specs.Document.{epicycles, yearAnswer, equationAnswer, meanAnswer, trueAnswer, termAnswer, termsAnswer, localAnswer};
+ghost use Rattle.bhromilun.specs.Plain.{daysOf, minutesOf, countsOf};
 
 // The mean solstice of a year: its day name, its fraction of a day in thousand-millionths, and the duty mansion.
 #[no_mangle]
@@ -105,24 +106,17 @@ pub extern "C" fn bhromilun_terms(
     minutes: &mut [u64; 24],
     counts: &mut [u64; 24],
 ) -> u64
-    ensures { λ r. ⌜ (r ≡ refusalIn (termsAnswer epicycles n)) × (now (days .exit) ≡ afterwards (now (days .entry)) (part (map (λ v. v .dayOfTerm)) (termsAnswer epicycles n))) × (now (minutes .exit) ≡ afterwards (now (minutes .entry)) (part (map (λ v. v .minuteOfTerm)) (termsAnswer epicycles n))) × (now (counts .exit) ≡ afterwards (now (counts .entry)) (part (map (λ v. v .midnights)) (termsAnswer epicycles n))) ⌝ }
+    ensures { λ r. ⌜ (r ≡ refusalIn (termsAnswer epicycles n)) × (now (days .exit) ≡ afterwards (now (days .entry)) (part daysOf (termsAnswer epicycles n))) × (now (minutes .exit) ≡ afterwards (now (minutes .entry)) (part minutesOf (termsAnswer epicycles n))) × (now (counts .exit) ≡ afterwards (now (counts .entry)) (part countsOf (termsAnswer epicycles n))) ⌝ }
 {
     let year = sun::terms_of(n);
     let answer = year.answer;
     match answer {
         Listed::All => {
-            let mut day_of = [0i64; 24];
-            let mut minute_of = [0u64; 24];
-            let mut count_of = [0u64; 24];
-            let mut k: usize = 0;
-            while k < 24 {
-                let term = year.at[k];
-                let day = term.day;
-                day_of[k] = day;
-                minute_of[k] = term.minute;
-                count_of[k] = term.count;
-                k += 1;
-            }
+            let at = year.at;
+            let columns = columns_of(at);
+            let day_of = columns.days;
+            let minute_of = columns.minutes;
+            let count_of = columns.counts;
             *days = day_of;
             *minutes = minute_of;
             *counts = count_of;

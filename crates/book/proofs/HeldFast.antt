@@ -1,5 +1,5 @@
 -- Each public function's promise holds its answer fast, and the buffer or the list afterwards. Assumes nothing.
-use mathlib.Core.Path.{_≡_, refl, ap, ap₂, sym, _∙_}
+use mathlib.Core.Path.{_≡_, refl, ap, ap₂, _∙_}
 use mathlib.Core.List.{List}
 use Prim.Native.Nat.{ℕ}
 use borrow.Fn.Enter.{pair≡}
@@ -8,10 +8,13 @@ use Rattle.law.specs.Answer.{Answer, value, refused}
 use Rattle.law.specs.Book.{HeadValues, Checked, sound, faulty, Next, nextYear, bookEnd, stop, Sought, found, unsound, noYear}
 use Rattle.law.proofs.HeldFast.{Seen, Held, by-facts, one, one-said}
 use Rattle.units.proofs.HeldFast.{refusalOf, refusal-back}
+use Rattle.sun.specs.declared.term.TermRecord.{TermRecord}
 use Rattle.sun.proofs.HeldFast.{one-records}
 use Rattle.book.specs.declared.read.ReadAnswer.{ReadAnswer}
 use Rattle.book.specs.declared.read.ReadAnswer.the-variants as read-answer
 use Rattle.book.specs.declared.read.ReadYear.{ReadYear}
+use Rattle.book.specs.declared.read.ReadValues.{ReadValues}
+use Rattle.book.specs.declared.head.Head.{Head}
 use Rattle.book.specs.declared.write.Written.{Written}
 use Rattle.book.specs.declared.write.Written.the-variants as written
 use Rattle.book.specs.declared.year.BookAnswer.{BookAnswer}
@@ -25,9 +28,11 @@ use Rattle.book.proofs.year.next_at as next-at
 use Rattle.book.proofs.year.check_book as check-book
 use Rattle.book.proofs.seek.seek_year as seek-year
 use Rattle.book.proofs.seek.year_part as year-part
+use Rattle.book.proofs.read.read_values as read-values
 use Rattle.book.proofs.read.read_year as read-year
 use Rattle.book.proofs.reader.open as reader-open
 use Rattle.book.proofs.reader.next as reader-next
+use Rattle.book.proofs.write.write_values as write-values
 use Rattle.book.proofs.write.write_year_from as write-year-from
 use Rattle.book.proofs.worked.write_year as write-year
 
@@ -84,7 +89,7 @@ seek-year-held M 𝓤 H A mem run κs a = by-facts 𝓤 (λ z z′ w w′ p q. (
 pub year-part-held : Seen year-part.ended (λ κs. List ℕ × (ℕ × ℕ)) (λ κs r. (now r, ptr r)) (λ M. year-part.clauses {M = M})
 year-part-held M 𝓤 H A mem run κs a = by-facts 𝓤 (λ z z′ w w′ p q. (pair≡ (one (p .0) (q .0)) (one (p .1) (q .1)), refl))
 
--- a year read: its answer by the first promise, N, day name and mansion by the second
+-- a year read: its answer by the first promise, its head by the second
 abbrev readAnswerFrom : Answer Checked → ReadAnswer
 readAnswerFrom (value (sound e)) = read-answer.Sound e
 readAnswerFrom (value (faulty n at)) = read-answer.Unsound (refusalOf n) at
@@ -95,16 +100,25 @@ read-answer-back (read-answer.Sound e) = refl
 read-answer-back (read-answer.Unsound r at) = ap (λ f. read-answer.Unsound f at) (refusal-back r)
 read-answer-back (read-answer.Refused r) = ap read-answer.Refused (refusal-back r)
 
-abbrev readFrom : Answer Checked → HeadValues → ReadYear
-readFrom c v = record { answer = readAnswerFrom c; n = v .headN; «day_name» = v .headName; mansion = v .headMansion }
+abbrev headFrom : HeadValues → Head
+headFrom v = record { n = v .headN; «day_name» = v .headName; mansion = v .headMansion }
 
-read-back : (r : ReadYear) → readFrom (saidReadAnswer (r .answer)) (headGiven r) ≡ r
-read-back r =
-    ap (λ (a : ReadAnswer). record { answer = a; n = r .n; «day_name» = r .«day_name»; mansion = r .mansion }) (read-answer-back (r .answer))
+one-head : {h h′ : Head} {v : HeadValues} → headGiven h ≡ v → headGiven h′ ≡ v → h ≡ h′
+one-head p q = ap headFrom (one p q)
 
-one-read : (z z′ : ReadYear) {c : Answer Checked} {v : HeadValues} → saidReadAnswer (z .answer) ≡ c → headGiven z ≡ v
-    → saidReadAnswer (z′ .answer) ≡ c → headGiven z′ ≡ v → z ≡ z′
-one-read z z′ p q p′ q′ = sym (read-back z) ∙ (ap₂ readFrom (one p p′) (one q q′) ∙ read-back z′)
+one-read : (z z′ : ReadYear) {c : Answer Checked} {v : HeadValues} → saidReadAnswer (z .answer) ≡ c → headGiven (z .head) ≡ v
+    → saidReadAnswer (z′ .answer) ≡ c → headGiven (z′ .head) ≡ v → z ≡ z′
+one-read z z′ p q p′ q′ =
+    ap₂ (λ (a : ReadAnswer) (h : Head). record { answer = a; head = h }) (one-said saidReadAnswer readAnswerFrom read-answer-back p p′) (one-head q q′)
+
+one-values : (z z′ : ReadValues) → z .answer ≡ z′ .answer → z .head ≡ z′ .head → z .at ≡ z′ .at → z ≡ z′
+one-values z z′ p q r =
+    ap (λ (a : BookAnswer). record { answer = a; head = z .head; at = z .at }) p
+    ∙ ap₂ (λ (h : Head) (l : List TermRecord). record { answer = z′ .answer; head = h; at = l }) q r
+
+pub read-values-held : Held read-values.ended (λ M. read-values.clauses {M = M})
+read-values-held M 𝓤 H A mem run κs a =
+    by-facts 𝓤 (λ z z′ w w′ p q. (one-values z z′ (one-said saidChecked checkedFrom checked-back (p .0) (q .0)) (one-head (p .1) (q .1)) (one-records (p .2) (q .2)), refl))
 
 pub read-year-held : Held read-year.ended (λ M. read-year.clauses {M = M})
 read-year-held M 𝓤 H A mem run κs a =
@@ -112,7 +126,11 @@ read-year-held M 𝓤 H A mem run κs a =
 
 pub write-year-from-held : Held write-year-from.ended (λ M. write-year-from.clauses {M = M})
 write-year-from-held M 𝓤 H A mem run κs a =
-    by-facts 𝓤 (λ z z′ w w′ p q. (one-said saidWritten writtenFrom written-back (p .0) (q .0), ap (λ l. (tt, (tt, (tt, (tt, (l, tt)))))) (one (p .1) (q .1))))
+    by-facts 𝓤 (λ z z′ w w′ p q. (one-said saidWritten writtenFrom written-back (p .0) (q .0), ap (λ l. (tt, (tt, (l, tt)))) (one (p .1) (q .1))))
+
+pub write-values-held : Held write-values.ended (λ M. write-values.clauses {M = M})
+write-values-held M 𝓤 H A mem run κs a =
+    by-facts 𝓤 (λ z z′ w w′ p q. (one-said saidWritten writtenFrom written-back (p .0) (q .0), ap (λ l. (tt, (tt, (l, tt)))) (one (p .1) (q .1))))
 
 pub write-year-held : Held write-year.ended (λ M. write-year.clauses {M = M})
 write-year-held M 𝓤 H A mem run κs a =

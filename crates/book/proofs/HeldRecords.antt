@@ -5,15 +5,14 @@ use Prim.Native.Nat.{ℕ, _≤_, _<_}
 use native.Mathlib.Decide.{decLt}
 use native.Mathlib.Omega.{arith}
 use borrow.Author.Tests.{lt-ltb, le-leb, lt-leb}
-use lib.IntN.{ℤ}
 use lib.ListN.{length, length-map, take}
 use lib.Seq.{length-take-le, take-all}
-use Rattle.law.specs.Document.{TermValues}
 use Rattle.law.specs.Book.{writeAnswer}
 use Rattle.sun.specs.declared.records.Records.{Records}
 use Rattle.sun.specs.declared.term.TermRecord.{TermRecord}
 use Rattle.sun.specs.Said.{valuesOf}
 use Rattle.sun.specs.Records.{held, firstCount, firstRecords}
+use Rattle.book.specs.declared.head.Head.{Head}
 use Rattle.book.specs.Said.{givenYear}
 
 -- ---- the records that are meant
@@ -28,11 +27,11 @@ module _ (r : Records) (l : length (r .at) ≡ 24) where
 -- ---- a list given to be written
 
 -- fewer than 24 are refused, whatever they are
-write-few : (n : ℤ) (x y : ℕ) (ts us : List TermValues) (b : List ℕ) → length ts < 24 → length us < 24
-    → writeAnswer (record { yearN = n; yearName = x; yearMansion = y; yearTerms = ts }) b
-    ≡ writeAnswer (record { yearN = n; yearName = x; yearMansion = y; yearTerms = us }) b
+write-few : (head : Head) (ts us : List TermRecord) (b : List ℕ) → length ts < 24 → length us < 24
+    → writeAnswer (givenYear head ts) b ≡ writeAnswer (givenYear head us) b
 unfolding writeAnswer
-write-few n x y ts us b h g = rw (lt-ltb (length ts) 24 h, lt-ltb (length us) 24 g) refl
+write-few head ts us b h g =
+    rw (lt-ltb (length (map valuesOf ts)) 24 (rw (length-map ts valuesOf) h), lt-ltb (length (map valuesOf us)) 24 (rw (length-map us valuesOf) g)) refl
 
 first-held : (l : List TermRecord) → 24 ≤ length l → held (firstRecords (length l) l) ≡ take 24 l
 unfolding firstCount
@@ -44,14 +43,14 @@ first-none : (l : List TermRecord) → length l < 24 → held (firstRecords (len
 unfolding firstCount
 first-none l h = rw (lt-leb 24 (length l) h) refl
 
-pub first-written : (n : ℤ) (x y : ℕ) (l : List TermRecord) (b : List ℕ)
-    → writeAnswer (givenYear n x y (held (firstRecords (length l) l))) b ≡ writeAnswer (givenYear n x y (take 24 l)) b
-first-written n x y l b = by (decLt (length l) 24)
+pub first-written : (head : Head) (l : List TermRecord) (b : List ℕ)
+    → writeAnswer (givenYear head (held (firstRecords (length l) l))) b ≡ writeAnswer (givenYear head (take 24 l)) b
+first-written head l b = by (decLt (length l) 24)
   where
-    by : Dec (length l < 24) → writeAnswer (givenYear n x y (held (firstRecords (length l) l))) b ≡ writeAnswer (givenYear n x y (take 24 l)) b
+    by : Dec (length l < 24) → writeAnswer (givenYear head (held (firstRecords (length l) l))) b ≡ writeAnswer (givenYear head (take 24 l)) b
     by (yes h) =
         let none = first-none l h in
-        let few : length (map valuesOf (held (firstRecords (length l) l))) < 24 = rw none (omega arith) in
+        let few : length (held (firstRecords (length l) l)) < 24 = rw none (omega arith) in
         let all : take 24 l ≡ l = take-all 24 l (omega arith) in
-        write-few n x y (map valuesOf (held (firstRecords (length l) l))) (map valuesOf (take 24 l)) b few (rw all (omega (arith, length-map l valuesOf)))
-    by (no h) = ap (λ (ts : List TermRecord). writeAnswer (givenYear n x y ts) b) (first-held l (omega arith))
+        write-few head (held (firstRecords (length l) l)) (take 24 l) b few (rw all h)
+    by (no h) = ap (λ (ts : List TermRecord). writeAnswer (givenYear head ts) b) (first-held l (omega arith))

@@ -1,17 +1,19 @@
 -- The values that are read one by one are those of the year at the start of the bytes. Assumes nothing.
-use mathlib.Core.List.{List, _∷_}
-use mathlib.Core.Path.{_≡_, refl, _∙_, ap}
+use mathlib.Core.List.{List, _∷_, map}
+use mathlib.Core.Path.{_≡_, refl, sym, _∙_, ap}
 use Prim.Native.Nat.{ℕ, zero, suc, _+_, _*_, _≤_, _<_}
 use native.Mathlib.Omega.{arith}
 use borrow.Author.Tests.{lt-ltb, le-ltb}
 use lib.IntN.{ℤ, pos, _-ℤ_}
-use lib.ListN.{getD, drop}
-use lib.Seq.{drop-drop}
+use lib.ListN.{length, length-map, getD, take, drop}
+use lib.Seq.{drop-drop, take-all}
 use Rattle.law.specs.Answer.{value, refused}
 use Rattle.law.specs.Document.{TermValues, inOrder}
 use Rattle.law.specs.Book.{Checked, twoAt, headSize, yearFrom, termIn, termsIn, valuesIn, readAnswer}
 use Rattle.law.proofs.Whole.{Is, is-pos, is-minus, same}
 use Rattle.law.proofs.InOrder.{in-order-same}
+use Rattle.sun.specs.declared.term.TermRecord.{TermRecord}
+use Rattle.sun.specs.Said.{valuesOf}
 use Rattle.book.proofs.WhatIsLeft.{two-drop}
 
 lowered-is : (lo n : ℕ) {d : ℤ} → Is d n lo → d ≡ pos n -ℤ pos lo
@@ -38,6 +40,18 @@ pub year-read : (b : List ℕ) {N : ℤ} {n name duty : ℕ} {ts : List TermValu
     → record { yearN = N; yearName = name; yearMansion = duty; yearTerms = ts } ≡ valuesIn b
 unfolding valuesIn
 year-read b {n = n} z i p x y q = rw (lowered-is 2_000 n i, p, x, y, q, z, terms-in-order 24 5 b)
+
+pub terms-many : (n : ℕ) (b : List ℕ) → length (termsIn n b) ≡ n
+unfolding termsIn
+terms-many zero b = refl
+terms-many (suc n) b = ap suc (terms-many n (drop 6 b))
+
+-- the 24 terms of a year read, all of an array
+pub all-read : (b : List ℕ) (l : List TermRecord) → map valuesOf l ≡ valuesIn b .yearTerms → map valuesOf (take 24 l) ≡ valuesIn b .yearTerms
+unfolding valuesIn
+all-read b l q =
+    let long : length l ≡ 24 = sym (length-map l valuesOf) ∙ (ap length q ∙ terms-many 24 (drop (headSize b) b)) in
+    ap (map valuesOf) (take-all 24 l (omega (arith, long))) ∙ q
 
 -- ---- for a list of so many records
 

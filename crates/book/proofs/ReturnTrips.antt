@@ -17,7 +17,7 @@ use Rattle.law.proofs.Answers.{PassedAll, passed-all}
 use Rattle.law.proofs.Whole.{Is, is-pos, is-neg, is-minus, ltZ-is}
 use Rattle.book.proofs.RecordAnswers.{both-no}
 use Rattle.book.proofs.YearSteps.{SoundTerms, SoundYear, year-sound}
-use Rattle.book.proofs.ReadValues.{read-as}
+use Rattle.book.proofs.ReadValues.{terms-many, read-as}
 use Rattle.book.proofs.WriteAnswers.{write-done}
 use Rattle.book.proofs.ThereAndBack.{Fits, countsAside, written-accepted, written-reads-back}
 use Rattle.book.proofs.BackAndThere.{Bytes, written-again}
@@ -71,11 +71,6 @@ none-bad (suc n) k b g =
     let s = g .0 in
     rw (in-range 4 370 (twoAt b 2) (s .day), le-ltb 1_439 (twoAt b 4) (s .minute), none-bad n (suc k) (drop 6 b) (g .1)) refl
 
-so-many : (n : ℕ) (b : List ℕ) → length (termsIn n b) ≡ n
-unfolding termsIn
-so-many zero b = refl
-so-many (suc n) b = ap suc (so-many n (drop 6 b))
-
 -- the values of an accepted year may be written
 pub read-fits : (least : ℕ) (s : List ℕ) → SoundYear least s → Fits (valuesIn s)
 unfolding valuesIn badValues
@@ -84,7 +79,7 @@ read-fits least s g =
     record {
       year = in-range 2_000 2_000 (twoAt s 1) (h .number);
       rest = rw (le-ltb 59 _ (h .name), le-ltb 27 _ (h .mansion)) (none-bad 24 0 _ (g .terms));
-      all = so-many 24 _;
+      all = terms-many 24 _;
     }
 
 -- a year's bytes stand before the rest

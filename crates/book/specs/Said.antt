@@ -1,7 +1,6 @@
 -- What this crate's answers say, in document 01's numbers. Assumes nothing.
 use mathlib.Core.List.{List, map}
-use Prim.Native.Nat.{ℕ}
-use lib.IntN.{ℤ, pos}
+use lib.IntN.{pos}
 use lib.ListN.{replicate}
 use Rattle.law.specs.Answer.{Answer, value, refused}
 use Rattle.law.specs.Book.{Checked, sound, faulty, Next, nextYear, bookEnd, stop, Sought, found, unsound, noYear, BookYear, HeadValues}
@@ -9,9 +8,9 @@ use Rattle.units.specs.Said.{numberOf}
 use Rattle.sun.specs.declared.term.TermRecord.{TermRecord}
 use Rattle.sun.specs.Said.{valuesOf}
 use Rattle.sun.specs.Records.{blank}
+use Rattle.book.specs.declared.head.Head.{Head}
 use Rattle.book.specs.declared.read.ReadAnswer.{ReadAnswer}
 use Rattle.book.specs.declared.read.ReadAnswer.the-variants as read-answer
-use Rattle.book.specs.declared.read.ReadYear.{ReadYear}
 use Rattle.book.specs.declared.read.FoundYear.{FoundYear}
 use Rattle.book.specs.declared.write.Written.{Written}
 use Rattle.book.specs.declared.write.Written.the-variants as written
@@ -43,8 +42,9 @@ saidSought (sought-answer.Unsound r byte) = unsound (numberOf r) byte
 saidSought (sought-answer.Refused r) = noYear (numberOf r)
 
 -- a year's values as they are given to a call
-abbrev pub givenYear : ℤ → ℕ → ℕ → List TermRecord → BookYear
-givenYear n name mansion terms = record { yearN = n; yearName = name; yearMansion = mansion; yearTerms = map valuesOf terms }
+abbrev pub givenYear : Head → List TermRecord → BookYear
+givenYear head terms =
+    record { yearN = head .n; yearName = head .«day_name»; yearMansion = head .mansion; yearTerms = map valuesOf terms }
 
 -- ---- a year read
 
@@ -53,16 +53,16 @@ saidReadAnswer (read-answer.Sound end) = value (sound end)
 saidReadAnswer (read-answer.Unsound r byte) = value (faulty (numberOf r) byte)
 saidReadAnswer (read-answer.Refused r) = refused (numberOf r)
 
-abbrev pub headGiven : ReadYear → HeadValues
-headGiven year = record { headN = year .n; headName = year .«day_name»; headMansion = year .mansion }
+abbrev pub headGiven : Head → HeadValues
+headGiven head = record { headN = head .n; headName = head .«day_name»; headMansion = head .mansion }
+
+abbrev pub noHead : Head
+noHead = record { n = pos 0; «day_name» = 0; mansion = 0 }
 
 -- nothing is read, and no record is to be stored
 abbrev pub unread : ReadAnswer → FoundYear
 unread answer =
-    record {
-      year = record { answer = answer; n = pos 0; «day_name» = 0; mansion = 0 };
-      records = record { count = 0; at = replicate 24 blank };
-    }
+    record { year = record { answer = answer; head = noHead }; records = record { count = 0; at = replicate 24 blank } }
 
 -- ---- a year written
 

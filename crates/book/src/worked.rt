@@ -1,8 +1,8 @@
 // The writer: works out one year and fills the first 149 bytes of a lent buffer.
+use crate::head::Head;
 use crate::write::Written;
-use crate::write::write_records;
+use crate::write::write_values;
 use sun::Listed;
-use sun::Records;
 use sun::YearAnswer;
 use units::Refusal;
 ghost use mathlib.Core.Path.{_≡_};
@@ -29,9 +29,11 @@ pub fn write_year(n: i64, buf: &mut [u8]) -> Written
             return Written::Refused(refusal);
         }
     }
-    let day_name = year.day_name;
-    let mansion = year.mansion;
+    let head = Head {
+        n,
+        day_name: year.day_name,
+        mansion: year.mansion,
+    };
     let at = terms.at;
-    let records = Records { count: 24, at };
-    write_records(n, day_name, mansion, records, buf)
+    write_values(head, at, buf)
 }

@@ -1,4 +1,5 @@
 // A year's values into the first 149 bytes of a lent buffer; the later bytes stay.
+use crate::head::Head;
 use sun::Records;
 use sun::TermRecord;
 use sun::first_records;
@@ -89,17 +90,11 @@ fn put_terms(buf: &mut [u8], terms: [TermRecord; 24])
     }
 }
 
-// A year from its values and the records that are meant, heeding no count. Nothing is written on a refusal.
-pub(crate) fn write_records(
-    n: i64,
-    day_name: u64,
-    mansion: u64,
-    records: Records,
-    buf: &mut [u8],
-) -> Written
-    ensures { λ r. ⌜ (saidWritten r ≡ done (writeAnswer (givenYear n «day_name» mansion (held records)) (now (buf .entry)))) × (now (buf .exit) ≡ afterwards (now (buf .entry)) (writeAnswer (givenYear n «day_name» mansion (held records)) (now (buf .entry)))) ⌝ }
+// From the records that are meant.
+fn write_records(head: Head, records: Records, buf: &mut [u8]) -> Written
+    ensures { λ r. ⌜ (saidWritten r ≡ done (writeAnswer (givenYear head (held records)) (now (buf .entry)))) × (now (buf .exit) ≡ afterwards (now (buf .entry)) (writeAnswer (givenYear head (held records)) (now (buf .entry)))) ⌝ }
 {
-    let Number::Is(number) = units::year_index(n) else {
+    let Number::Is(number) = units::year_index(head.n) else {
         return Written::Refused(Refusal::YearOutside);
     };
     if records.count < 24 {
@@ -108,31 +103,33 @@ pub(crate) fn write_records(
     if buf.len() < 149 {
         return Written::Refused(Refusal::TooShort);
     }
-    if 59 < day_name {
+    if 59 < head.day_name {
         return Written::Refused(Refusal::FieldOutside);
     }
-    if 27 < mansion {
+    if 27 < head.mansion {
         return Written::Refused(Refusal::FieldOutside);
     }
     let terms = records.at;
     if any_bad(terms) {
         return Written::Refused(Refusal::FieldOutside);
     }
-    put_head(buf, number, day_name, mansion);
+    put_head(buf, number, head.day_name, head.mansion);
     put_terms(buf, terms);
     Written::Done
 }
 
-// Writes a year from its values and the first 24 records of a list, heeding no count. Nothing is written on a refusal.
-pub fn write_year_from(
-    n: i64,
-    day_name: u64,
-    mansion: u64,
-    list: &[TermRecord],
-    buf: &mut [u8],
-) -> Written
-    ensures { λ r. ⌜ (saidWritten r ≡ done (writeAnswer (givenYear n «day_name» mansion (take 24 (now (list .entry)))) (now (buf .entry)))) × (now (buf .exit) ≡ afterwards (now (buf .entry)) (writeAnswer (givenYear n «day_name» mansion (take 24 (now (list .entry)))) (now (buf .entry)))) ⌝ }
+// Writes a year from its head and its terms, heeding no count. Nothing is written on a refusal.
+pub fn write_values(head: Head, at: [TermRecord; 24], buf: &mut [u8]) -> Written
+    ensures { λ r. ⌜ (saidWritten r ≡ done (writeAnswer (givenYear head at) (now (buf .entry)))) × (now (buf .exit) ≡ afterwards (now (buf .entry)) (writeAnswer (givenYear head at) (now (buf .entry)))) ⌝ }
+{
+    let records = Records { count: 24, at };
+    write_records(head, records, buf)
+}
+
+// The same from the first 24 records of a list.
+pub fn write_year_from(head: Head, list: &[TermRecord], buf: &mut [u8]) -> Written
+    ensures { λ r. ⌜ (saidWritten r ≡ done (writeAnswer (givenYear head (take 24 (now (list .entry)))) (now (buf .entry)))) × (now (buf .exit) ≡ afterwards (now (buf .entry)) (writeAnswer (givenYear head (take 24 (now (list .entry)))) (now (buf .entry)))) ⌝ }
 {
     let records = first_records(list);
-    write_records(n, day_name, mansion, records, buf)
+    write_records(head, records, buf)
 }

@@ -1,12 +1,12 @@
 // Of each damaged book: what checking it, seeking the year 0 in it, reading its first year and a reader's calls answer.
 use crate::bytes::byte_at;
 use crate::bytes::two_at;
-use crate::lists;
 use crate::print::number;
 use crate::print::refused;
 use crate::print::refused_at;
 use crate::print::text;
 use crate::readers;
+use crate::values;
 use book::BookAnswer;
 use book::Sought;
 ghost use Prim.Native.Nat.{_≤_};
@@ -46,32 +46,12 @@ fn sought(bytes: &[u8]) {
     }
 }
 
-fn room(bytes: &[u8], room: usize)
-    requires { ⌜ room ≤ 26 ⌝ }
-{
-    text(b"room ");
-    number(room as u64);
-    text(b": ");
-    lists::read_into(bytes, room);
-    text(b"\n");
-}
-
-// The base book's first year, and no bytes, read into lists of several lengths.
-fn rooms(bytes: &[u8]) {
-    room(bytes, 0);
-    room(bytes, 23);
-    room(bytes, 24);
-    room(bytes, 26);
-    room(&bytes[..0], 23);
-    room(&bytes[..0], 24);
-}
-
 fn line(bytes: &[u8]) {
     checked(bytes);
     text(b" | ");
     sought(bytes);
     text(b" | ");
-    lists::read_into(bytes, 25);
+    values::read(bytes);
     text(b" | ");
     readers::calls(bytes);
     text(b"\n");
@@ -115,7 +95,6 @@ fn case(input: &[u8], at: usize, base: [u8; 600]) -> usize
 
 pub(crate) fn lines(input: &[u8]) {
     let base = base_book();
-    rooms(&base);
     let mut at = 0;
     for turn in 0..10_000u64 {
         if 131_072 < at {

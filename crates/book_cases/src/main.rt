@@ -3,9 +3,9 @@
 // and byte. tests/expected.py makes stdin and stdout.
 mod bytes;
 mod damaged;
-mod lists;
 mod print;
 mod readers;
+mod values;
 mod written;
 
 use libc::STDIN_FILENO;

@@ -1,13 +1,12 @@
 // Years worked out and written, years written from values, and their refusals, with the whole buffer afterwards.
-use crate::lists::written_from;
 use crate::print::hex;
 use crate::print::number;
 use crate::print::refused;
 use crate::print::signed;
 use crate::print::text;
+use book::Head;
 use book::Written;
 use sun::TermRecord;
-ghost use Prim.Native.Nat.{_≤_};
 
 // What a writer answered, and the buffer that it was lent a part of.
 fn answer(written: Written, buffer: &[u8]) {
@@ -38,27 +37,15 @@ fn year(n: i64, room: usize) {
     year_into(n, &mut buffer, room);
 }
 
-fn values_into(
-    n: i64,
-    day_name: u64,
-    mansion: u64,
-    term: TermRecord,
-    listed: usize,
-    buffer: &mut [u8],
-    room: usize,
-)
-    requires { ⌜ listed ≤ 26 ⌝ }
-{
+fn values_into(head: Head, term: TermRecord, buffer: &mut [u8], room: usize) {
     if room <= buffer.len() {
-        let written = written_from(n, day_name, mansion, term, listed, &mut buffer[..room]);
+        let written = book::write_values(head, [term; 24], &mut buffer[..room]);
         answer(written, buffer);
     }
 }
 
-// A year of equal terms in a list of so many, into the first `room` bytes of such a buffer.
-fn values(n: i64, day_name: u64, mansion: u64, day: i64, minute: u64, listed: usize, room: usize)
-    requires { ⌜ listed ≤ 26 ⌝ }
-{
+// A year of equal terms, into the first `room` bytes of such a buffer.
+fn values(n: i64, day_name: u64, mansion: u64, day: i64, minute: u64, room: usize) {
     text(b"values ");
     signed(n);
     text(b" ");
@@ -69,18 +56,21 @@ fn values(n: i64, day_name: u64, mansion: u64, day: i64, minute: u64, listed: us
     signed(day);
     text(b" ");
     number(minute);
-    text(b" of ");
-    number(listed as u64);
     text(b" in ");
     number(room as u64);
     text(b": ");
+    let head = Head {
+        n,
+        day_name,
+        mansion,
+    };
     let term = TermRecord {
         day,
         minute,
         count: 9,
     };
     let mut buffer = [238u8; 152];
-    values_into(n, day_name, mansion, term, listed, &mut buffer, room);
+    values_into(head, term, &mut buffer, room);
 }
 
 fn years() {
@@ -98,16 +88,13 @@ fn years() {
 
 pub(crate) fn lines() {
     years();
-    values(-2_000, 0, 0, -4, 0, 24, 149);
-    values(2_000, 59, 27, 370, 1_439, 26, 152);
-    values(2_001, 60, 28, 371, 1_440, 23, 148);
-    values(2_000, 60, 28, 371, 1_440, 24, 148);
-    values(2_000, 60, 28, 371, 1_440, 23, 149);
-    values(2_000, 59, 27, 370, 1_439, 23, 149);
-    values(2_000, 59, 27, 370, 1_439, 0, 152);
-    values(2_000, 60, 27, 370, 1_439, 24, 149);
-    values(2_000, 59, 28, 370, 1_439, 25, 149);
-    values(2_000, 59, 27, 371, 1_439, 24, 149);
-    values(2_000, 59, 27, -5, 1_439, 24, 149);
-    values(2_000, 59, 27, 370, 1_440, 24, 149);
+    values(-2_000, 0, 0, -4, 0, 149);
+    values(2_000, 59, 27, 370, 1_439, 152);
+    values(2_001, 60, 28, 371, 1_440, 148);
+    values(2_000, 60, 28, 371, 1_440, 148);
+    values(2_000, 60, 27, 370, 1_439, 149);
+    values(2_000, 59, 28, 370, 1_439, 149);
+    values(2_000, 59, 27, 371, 1_439, 149);
+    values(2_000, 59, 27, -5, 1_439, 149);
+    values(2_000, 59, 27, 370, 1_440, 149);
 }

@@ -3,7 +3,7 @@
 
 use outside::reckoning::book::{self, YEAR_BYTES};
 use outside::wall::{self, plain};
-use outside::{reckoning, Moment, Refusal, Solstice, Term};
+use outside::{reckoning, Moment, Refusal, Solstice, Term, Year};
 use std::fmt::Debug;
 use std::ops::RangeInclusive;
 
@@ -29,6 +29,9 @@ fn main() {
     whole_book(&mut tally, &shelf);
     cut_books(&mut tally, &shelf);
     damaged_books(&mut tally, &shelf);
+    read_years(&mut tally, &shelf);
+    damaged_years(&mut tally, &shelf);
+    given_years(&mut tally);
     results(&mut tally, &shelf);
     println!("{} cases, {} differences", tally.cases, tally.differences);
     if tally.differences != 0 {
@@ -439,6 +442,143 @@ fn damaged_books(tally: &mut Tally, shelf: &[u8]) {
     tally.end_of_part("damaged books");
 }
 
+/// What a year's values and the byte after it hold before a call.
+const UNREAD: (Year, usize) = {
+    let untouched = Moment { day: BEFORE_SIGNED, minute: BEFORE };
+    let year = Year { n: BEFORE_SIGNED, day_name: BEFORE, mansion: BEFORE, terms: [untouched; 24] };
+    (year, BEFORE_SIZE)
+};
+
+/// The number, the year and its end, and the byte at fault, as the library stores them.
+fn library_reads(bytes: &[u8]) -> (u64, (Year, usize), usize) {
+    let (mut year, mut end) = UNREAD;
+    let (mut days, mut minutes) = ([BEFORE_SIGNED; 24], [BEFORE; 24]);
+    let mut byte = BEFORE_SIZE;
+    let (n, day_name, mansion) = (&mut year.n, &mut year.day_name, &mut year.mansion);
+    let number =
+        plain::read_year(bytes, n, day_name, mansion, &mut days, &mut minutes, &mut end, &mut byte);
+    for (k, term) in year.terms.iter_mut().enumerate() {
+        *term = Moment { day: days[k], minute: minutes[k] };
+    }
+    (number, (year, end), byte)
+}
+
+/// The number, and the whole buffer afterwards.
+fn library_writes(year: &Year, length: usize) -> (u64, Vec<u8>) {
+    let mut buffer = vec![BEFORE_BYTE; length];
+    let days = year.terms.map(|term| term.day);
+    let minutes = year.terms.map(|term| term.minute);
+    let number =
+        plain::write_year_from(year.n, year.day_name, year.mansion, &days, &minutes, &mut buffer);
+    (number, buffer)
+}
+
+/// Reads a year; one that is sound is also written again, and must come out as the same bytes.
+fn read(tally: &mut Tally, bytes: &[u8], name: impl Fn() -> String) {
+    let theirs = library_reads(bytes);
+    let ours = match book::read_year(bytes) {
+        Ok(read) => (0, read, BEFORE_SIZE),
+        Err(refusal) => (refusal.number, UNREAD, refusal.byte.unwrap_or(BEFORE_SIZE)),
+    };
+    tally.case(|| format!("reading {}", name()), theirs, ours);
+    if let (0, (year, end), _) = theirs {
+        let name = || format!("writing again {}", name());
+        tally.case(name, library_writes(&year, end), (0, bytes[..end].to_vec()));
+    }
+}
+
+/// Writes a year; one that was accepted is also read, and must come out as the same values.
+fn write_from(tally: &mut Tally, year: &Year, length: usize) {
+    let theirs = library_writes(year, length);
+    let mut buffer = vec![BEFORE_BYTE; length];
+    let number = book::write_year_from(year, &mut buffer).map_or_else(|r| r.number, |_| 0);
+    tally.case(|| format!("{year:?} written to {length} bytes"), &theirs, &(number, buffer));
+    if theirs.0 == 0 {
+        let name = || format!("reading again {year:?}");
+        tally.case(name, library_reads(&theirs.1), (0, (*year, YEAR_BYTES), BEFORE_SIZE));
+    }
+}
+
+/// Every year of the book, alone, before what follows it, and cut off.
+fn read_years(tally: &mut Tally, shelf: &[u8]) {
+    for n in YEARS {
+        let start = (n + 2_000) as usize * YEAR_BYTES;
+        let end = start + YEAR_BYTES;
+        read(tally, &shelf[start..end], || format!("the year {n}"));
+        read(tally, &shelf[start..], || format!("the book from the year {n} on"));
+        let length = (n + 2_000) as usize % YEAR_BYTES;
+        read(tally, &shelf[start..start + length], || format!("{length} bytes of the year {n}"));
+    }
+    tally.end_of_part("years read, and written again");
+}
+
+/// Single years with one to three changes among their records or bytes, some with bytes after them.
+fn damaged_years(tally: &mut Tally, shelf: &[u8]) {
+    let mut sequence = Sequence(1723);
+    let mut list = Vec::new();
+    let mut bytes = Vec::new();
+    for number in 0..200_000 {
+        let start = sequence.below(4_001) * YEAR_BYTES;
+        list.clear();
+        list.extend(records(&shelf[start..start + YEAR_BYTES]));
+        let among_records = sequence.below(3);
+        for _ in 0..among_records {
+            damage_records(&mut sequence, &mut list);
+        }
+        bytes.clear();
+        for record in &list {
+            bytes.extend_from_slice(&record.bytes[..record.length]);
+        }
+        if sequence.below(4) == 0 {
+            bytes.extend_from_slice(&shelf[start..start + 1 + sequence.below(YEAR_BYTES)]);
+        }
+        let among_bytes =
+            if among_records == 0 { 1 + sequence.below(2) } else { sequence.below(2) };
+        for _ in 0..among_bytes {
+            damage_bytes(&mut sequence, &mut bytes);
+        }
+        read(tally, &bytes, || format!("damaged year {number}, {bytes:02x?}"));
+    }
+    tally.end_of_part("damaged years read");
+}
+
+/// Values in their ranges, at their limits, just past them, and where a narrower number would wrap.
+fn given_years(tally: &mut Tally) {
+    let mut sequence = Sequence(1665);
+    let (years_outside, days_outside) = (years_outside(), days_outside());
+    let above =
+        |limit: u64| [limit, limit + 1, 255, 256, 65_536, 65_536 + limit, 1 << 32, u64::MAX];
+    for _ in 0..200_000 {
+        let mut year = Year { n: sequence.year(), ..Year::default() };
+        year.day_name = sequence.next() % 60;
+        year.mansion = sequence.next() % 28;
+        for term in &mut year.terms {
+            let day = sequence.below(375) as i64 - 4;
+            *term = Moment { day, minute: sequence.next() % 1_440 };
+        }
+        for _ in 0..sequence.below(3) {
+            let term = sequence.below(24);
+            match sequence.below(8) {
+                0 => year.n = sequence.one_of(&years_outside),
+                1 => year.n = sequence.one_of(&[-2_000, 2_000]),
+                2 => year.day_name = sequence.one_of(&above(59)),
+                3 => year.mansion = sequence.one_of(&above(27)),
+                4 => year.terms[term].day = sequence.one_of(&days_outside),
+                5 => year.terms[term].day = sequence.one_of(&[-4, 370]),
+                _ => year.terms[term].minute = sequence.one_of(&above(1_439)),
+            }
+        }
+        let length = match sequence.below(8) {
+            0 => sequence.below(YEAR_BYTES),
+            1 => YEAR_BYTES - 1,
+            2 => YEAR_BYTES + sequence.below(YEAR_BYTES),
+            _ => YEAR_BYTES,
+        };
+        write_from(tally, &year, length);
+    }
+    tally.end_of_part("years written from values, and read again");
+}
+
 /// The wrapper's `Result`s, each with an answer and its refusals.
 fn results(tally: &mut Tally, shelf: &[u8]) {
     let mut case = |name: &str, same: bool| tally.case(|| name.to_string(), same, true);
@@ -454,11 +594,22 @@ fn results(tally: &mut Tally, shelf: &[u8]) {
             let answer = wall::write_year(n, &mut theirs).map(<[u8]>::to_vec);
             let expected = book::write_year(n, &mut ours).map(|_| ours[..YEAR_BYTES].to_vec());
             case("written year's result", answer == expected);
+            for day in [370, 371] {
+                let terms = [Moment { day, minute: 1_439 }; 24];
+                let year = Year { n, day_name: 59, mansion: 27, terms };
+                let (mut theirs, mut ours) = (vec![BEFORE_BYTE; length], vec![BEFORE_BYTE; length]);
+                let answer = wall::write_year_from(&year, &mut theirs).map(<[u8]>::to_vec);
+                let expected = book::write_year_from(&year, &mut ours);
+                let expected = expected.map(|_| ours[..YEAR_BYTES].to_vec());
+                case("given year's result", answer == expected);
+            }
         }
         for length in [0, 1, YEAR_BYTES, shelf.len() - 1, shelf.len()] {
             let part = &shelf[..length];
             case("sought year's result", wall::seek_year(part, n) == book::seek_year(part, n));
             case("checked book's result", wall::check_book(part) == book::check_book(part));
+            let ours = book::read_year(part).map(|(year, end)| (year, &part[end..]));
+            case("read year's result", wall::read_year(part) == ours);
         }
     }
     case("equation's result", wall::equation(CIRCLE / 12) == reckoning::equation(CIRCLE / 12));

@@ -1,37 +1,104 @@
-//! The term book: its writer, its check and the search for a year, as document 01 sets them out.
-//! The check reads record by record; a fault is named by its number and the record's first byte.
+//! The term book: its writers, its check, the reading of one year and the search for one, as document
+//! 01 sets them out. The check reads record by record; a fault is named by its number and the record's
+//! first byte.
 
 use super::{term, year, year_in_range};
-use crate::Refusal;
+use crate::{Moment, Refusal, Year};
 
 pub const YEAR_BYTES: usize = 149;
 
 const HEAD: u8 = 1;
 const TERM: u8 = 2;
 
-pub fn write_year(n: i64, buffer: &mut [u8]) -> Result<(), Refusal> {
+/// Refusals 1 and 6, which come before all others.
+fn room_for(n: i64, buffer: &[u8]) -> Result<(), Refusal> {
     year_in_range(n)?;
     if buffer.len() < YEAR_BYTES {
         return Err(Refusal::number(6));
     }
-    let solstice = year(n)?;
+    Ok(())
+}
+
+fn bytes_of(year: &Year) -> Vec<u8> {
     let mut bytes = vec![HEAD];
-    bytes.extend(((n + 2_000) as u16).to_be_bytes());
-    bytes.extend([solstice.day_name as u8, solstice.mansion as u8]);
-    for k in 0..24 {
-        let found = term(n, k)?;
+    bytes.extend(((year.n + 2_000) as u16).to_be_bytes());
+    bytes.extend([year.day_name as u8, year.mansion as u8]);
+    for (k, term) in year.terms.iter().enumerate() {
         bytes.extend([TERM, k as u8]);
-        bytes.extend(((found.day + 4) as u16).to_be_bytes());
-        bytes.extend((found.minute as u16).to_be_bytes());
+        bytes.extend(((term.day + 4) as u16).to_be_bytes());
+        bytes.extend((term.minute as u16).to_be_bytes());
     }
-    buffer[..YEAR_BYTES].copy_from_slice(&bytes);
+    bytes
+}
+
+pub fn write_year(n: i64, buffer: &mut [u8]) -> Result<(), Refusal> {
+    room_for(n, buffer)?;
+    let solstice = year(n)?;
+    let mut worked =
+        Year { n, day_name: solstice.day_name, mansion: solstice.mansion, ..Year::default() };
+    for (k, moment) in worked.terms.iter_mut().enumerate() {
+        let found = term(n, k as u64)?;
+        *moment = Moment { day: found.day, minute: found.minute };
+    }
+    buffer[..YEAR_BYTES].copy_from_slice(&bytes_of(&worked));
+    Ok(())
+}
+
+pub fn write_year_from(year: &Year, buffer: &mut [u8]) -> Result<(), Refusal> {
+    room_for(year.n, buffer)?;
+    let may_be = |term: &Moment| (-4..=370).contains(&term.day) && term.minute <= 1_439;
+    if year.day_name > 59 || year.mansion > 27 || !year.terms.iter().all(may_be) {
+        return Err(Refusal::number(9));
+    }
+    buffer[..YEAR_BYTES].copy_from_slice(&bytes_of(year));
     Ok(())
 }
 
 /// What the next record must be.
+#[derive(Clone, Copy)]
 enum Due {
     Head,
     Term(u8),
+}
+
+fn pair(body: &[u8], first: usize) -> u16 {
+    u16::from_be_bytes([body[first], body[first + 1]])
+}
+
+/// The body of the record that starts at a byte, which is not past the last.
+fn body_at(bytes: &[u8], at: usize, due: Due, year_before: Option<u16>) -> Result<&[u8], Refusal> {
+    let refused = |number| Err(Refusal { number, byte: Some(at) });
+    let record = &bytes[at..];
+    let body_length = match record[0] {
+        HEAD => 4,
+        TERM => 5,
+        _ => return refused(8),
+    };
+    let body = match record.get(1..1 + body_length) {
+        Some(body) => body,
+        None => return refused(7),
+    };
+    match (due, record[0]) {
+        (Due::Head, HEAD) => {
+            let this_year = pair(body, 0);
+            if year_before.map_or(false, |before| this_year <= before) {
+                return refused(10);
+            }
+            if this_year > 4_000 || body[2] > 59 || body[3] > 27 {
+                return refused(9);
+            }
+        }
+        (Due::Term(k), TERM) => {
+            if body[0] != k {
+                return refused(10);
+            }
+            if pair(body, 1) > 374 || pair(body, 3) > 1_439 {
+                return refused(9);
+            }
+        }
+        _ => return refused(10),
+    }
+    Ok(body)
 }
 
 /// Reads the book to its end and shows the year (N + 2,000) and first byte of each head to `visit`.
@@ -40,48 +107,48 @@ fn read(bytes: &[u8], mut visit: impl FnMut(u16, usize)) -> Result<(), Refusal> 
     let mut year_before: Option<u16> = None;
     let mut at = 0;
     while at < bytes.len() {
-        let refused = |number| Err(Refusal { number, byte: Some(at) });
-        let record = &bytes[at..];
-        let body_length = match record[0] {
-            HEAD => 4,
-            TERM => 5,
-            _ => return refused(8),
-        };
-        let body = match record.get(1..1 + body_length) {
-            Some(body) => body,
-            None => return refused(7),
-        };
-        let pair = |first: usize| u16::from_be_bytes([body[first], body[first + 1]]);
-        match (due, record[0]) {
-            (Due::Head, HEAD) => {
-                let this_year = pair(0);
-                if year_before.map_or(false, |before| this_year <= before) {
-                    return refused(10);
-                }
-                if this_year > 4_000 || body[2] > 59 || body[3] > 27 {
-                    return refused(9);
-                }
+        let body = body_at(bytes, at, due, year_before)?;
+        due = match due {
+            Due::Head => {
+                let this_year = pair(body, 0);
                 visit(this_year, at);
                 year_before = Some(this_year);
-                due = Due::Term(0);
+                Due::Term(0)
             }
-            (Due::Term(k), TERM) => {
-                if body[0] != k {
-                    return refused(10);
-                }
-                if pair(1) > 374 || pair(3) > 1_439 {
-                    return refused(9);
-                }
-                due = if k == 23 { Due::Head } else { Due::Term(k + 1) };
-            }
-            _ => return refused(10),
-        }
-        at += 1 + body_length;
+            Due::Term(23) => Due::Head,
+            Due::Term(k) => Due::Term(k + 1),
+        };
+        at += 1 + body.len();
     }
     match due {
         Due::Head => Ok(()),
         Due::Term(_) => Err(Refusal { number: 10, byte: Some(bytes.len()) }),
     }
+}
+
+/// The year at the start of the bytes, and the byte after it; what follows is not looked at.
+pub fn read_year(bytes: &[u8]) -> Result<(Year, usize), Refusal> {
+    let mut year = Year::default();
+    let mut at = 0;
+    for due in [Due::Head].into_iter().chain((0..24).map(Due::Term)) {
+        if at == bytes.len() {
+            return Err(Refusal { number: 10, byte: Some(at) });
+        }
+        let body = body_at(bytes, at, due, None)?;
+        match due {
+            Due::Head => {
+                year.n = i64::from(pair(body, 0)) - 2_000;
+                year.day_name = u64::from(body[2]);
+                year.mansion = u64::from(body[3]);
+            }
+            Due::Term(k) => {
+                let day = i64::from(pair(body, 1)) - 4;
+                year.terms[usize::from(k)] = Moment { day, minute: u64::from(pair(body, 3)) };
+            }
+        }
+        at += 1 + body.len();
+    }
+    Ok((year, at))
 }
 
 pub fn check_book(bytes: &[u8]) -> Result<(), Refusal> {
@@ -175,6 +242,27 @@ mod tests {
         assert_eq!(check_book(&book(&[0, -1])), at(10, 149));
         assert_eq!(check_book(&[7]), at(8, 0));
         assert_eq!(check_book(&[2]), at(7, 0));
+    }
+
+    #[test]
+    fn between_bytes_and_values() {
+        let mut bytes = book(&[0, 1]);
+        let (mut year, end) = read_year(&bytes).unwrap();
+        assert_eq!((year.n, year.day_name, year.mansion, end), (0, 7, 6, 149));
+        assert_eq!(year.terms[0], Moment { day: -1, minute: 1_313 });
+        let mut again = [9; 150];
+        assert_eq!(write_year_from(&year, &mut again), Ok(()));
+        assert_eq!(again[..149], bytes[..149]);
+        assert_eq!(again[149], 9);
+        bytes[149] = 7;
+        assert_eq!(read_year(&bytes), Ok((year, 149)));
+        assert_eq!(read_year(&[]), Err(Refusal { number: 10, byte: Some(0) }));
+        assert_eq!(read_year(&bytes[..148]), Err(Refusal { number: 7, byte: Some(143) }));
+        year.terms[23].minute = 1_440;
+        assert_eq!(write_year_from(&year, &mut [9; 148]), Err(Refusal::number(6)));
+        assert_eq!(write_year_from(&year, &mut [9; 149]), Err(Refusal::number(9)));
+        year.n = 2_001;
+        assert_eq!(write_year_from(&year, &mut [9; 148]), Err(Refusal::number(1)));
     }
 
     #[test]

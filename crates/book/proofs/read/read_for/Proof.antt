@@ -1,28 +1,14 @@
--- A sound year has all its bytes, and the values read are those at its places. Assumes nothing.
+-- The year by value, and none of its records for a list that is too short. Assumes nothing.
 use mathlib.Core.Path.{_≡_, refl, ap, sym, _∙_}
-use Prim.Native.Nat.{ℕ, _+_, _*_}
 use native.Mathlib.Omega.{arith}
-use lib.ListN.{drop}
-use mir.Syntax.{w64}
 use borrow.Author.Needs.{needs}
-use Rattle.law.specs.Book.{sound, yearFrom, BookYear, termIn, headOf}
-use Rattle.units.proofs.Machine.{Lowered, lowered}
-use Rattle.sun.proofs.Filling.{all-held}
+use Rattle.law.specs.Answer.{value}
+use Rattle.law.specs.Book.{Checked, yearFrom, headRead, termsRead}
+use Rattle.sun.specs.Said.{heldTerms}
 use Rattle.book.specs.Said.{saidChecked}
-use Rattle.book.proofs.YearSteps.{SoundYear, year-sound, year-room}
-use Rattle.book.proofs.ReadValues.{year-read, read-6, read-as}
+use Rattle.book.proofs.ReadValues.{all-read, read-6, read-as}
 use Rattle.book.proofs.read.read_for.Statement.{statement}
 use Rattle.book.proofs.read.read_for.Tie as tie
-
--- the year is sound
-told : (c : tie.After-known-told) → yearFrom 0 0 (c .before .before .before .before .before .before .args .bytes .now) ≡ sound (c .before .end .given .0 .0)
-told c = sym (c .before .before .before .year-at .ensures) ∙ ap saidChecked (c .before .end .given .1)
-
-year : (c : tie.After-known-told) → SoundYear 0 (c .before .before .before .before .before .before .args .bytes .now)
-year c = year-sound 0 0 _ _ (told c)
-
-down : (c : tie.After-two-at) → Lowered w64 2_000 (c .two-at .result)
-down c = lowered w64 2_000 (c .two-at .result) (omega arith) (omega arith)
 
 unread-for-requires : tie.Need-unread-for-requires
 unread-for-requires c κs = search needs
@@ -30,53 +16,30 @@ unread-for-requires c κs = search needs
 returns : tie.Need-returns
 returns c = rw (c .unread-for .ensures, read-6 (c .before .before .before .args .bytes .now) (c .before .before .before .args .room) (omega arith)) (refl, refl, refl, omega arith)
 
-year-at-requires : tie.Need-year-at-requires
-year-at-requires c κs = search needs
+read-values-requires : tie.Need-read-values-requires
+read-values-requires c κs = search needs
 
-enum-known-end : tie.Need-enum-known-end
-enum-known-end c = search needs
+enum-known-answer : tie.Need-enum-known-answer
+enum-known-answer c = search needs
 
-two-at-requires : tie.Need-two-at-requires
-two-at-requires c κs = omega (arith, year c .head)
-
-cast-t15 : tie.Need-cast-t15
-cast-t15 c = search needs
-
-sub-t16 : tie.Need-sub-t16
-sub-t16 c = down c .sum
-
-shared-slice-read-wide : tie.Need-shared-slice-read-wide
-shared-slice-read-wide c = omega (arith, year (c .before .before) .head)
-
-wide-requires : tie.Need-wide-requires
-wide-requires c κs = search needs
-
-shared-slice-read-wide-2 : tie.Need-shared-slice-read-wide-2
-shared-slice-read-wide-2 c = omega (arith, year (c .before .before .before .before) .head)
-
-wide-requires-2 : tie.Need-wide-requires-2
-wide-requires-2 c κs = search needs
-
-terms-at-requires : tie.Need-terms-at-requires
-terms-at-requires c κs = omega (arith, year-room _ _ (year (c .before .before .before .before .before)), year (c .before .before .before .before .before) .head)
-
-enum-known-refusal : tie.Need-enum-known-refusal
-enum-known-refusal c = search needs
+enum-known-answer-2 : tie.Need-enum-known-answer-2
+enum-known-answer-2 c = search needs
 
 unread-for-requires-2 : tie.Need-unread-for-requires-2
 unread-for-requires-2 c κs = search needs
 
 returns-2 : tie.Need-returns-2
-returns-2 c = let s = c .before .before .before .before .before .before .before .before .before .before .before .before in
+returns-2 c = let s = c .before .before .before .before .before .before .before .before in
+    let call = c .before .before .before .before .before .read-values in
     let b = s .args .bytes .now in
-    let at = c .before .before .before .before .before .before in
-    let terms = all-held (c .terms-at .result) (λ (k : ℕ). termIn (drop (5 + k * 6) b)) (c .terms-at .ensures) in
-    let read = year-read b (year at .head .size) (down (c .before .before .before .before .before) .is) (c .before .before .before .before .before .two-at .ensures .0) (c .before .before .before .wide .ensures .0) (c .before .wide2 .ensures .0) terms in
-    rw (read-as b (s .args .room) (omega arith) (told at)) (refl, ap headOf read, (refl, ap (λ (v : BookYear). v .yearTerms) read), omega arith)
+    let told : yearFrom 0 0 b ≡ _ = sym (call .ensures .0) ∙ ap saidChecked (c .before .before .before .answer .given .1) in
+    let head = call .ensures .1 ∙ ap (λ (a : Checked). headRead (value a) b) told in
+    let terms = call .ensures .2 ∙ ap (λ (a : Checked). heldTerms (termsRead (value a) b)) told in
+    rw (read-as b (s .args .room) (omega arith) told) (refl, head, (refl, all-read b (call .result .at) terms), omega arith)
 
 returns-3 : tie.Need-returns-3
 returns-3 c = let s = c .before .before .before .before .before .before .before in
-    let told = sym (c .before .before .before .before .year-at .ensures) ∙ ap saidChecked (c .before .before .refusal .given .1) in
+    let told = sym (c .before .before .before .before .read-values .ensures .0) ∙ ap saidChecked (c .before .before .answer2 .given .1) in
     rw (c .unread-for2 .ensures, read-as (s .args .bytes .now) (s .args .room) (omega arith) told) (refl, refl, refl, omega arith)
 
 pub read-for-spec : {M : Type 1} → statement M
@@ -85,17 +48,9 @@ read-for-spec =
     (tie.spec
     unread-for-requires
     returns
-    year-at-requires
-    enum-known-end
-    two-at-requires
-    cast-t15
-    sub-t16
-    shared-slice-read-wide
-    wide-requires
-    shared-slice-read-wide-2
-    wide-requires-2
-    terms-at-requires
-    enum-known-refusal
+    read-values-requires
+    enum-known-answer
+    enum-known-answer-2
     unread-for-requires-2
     returns-2
     returns-3)

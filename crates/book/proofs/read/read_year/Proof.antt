@@ -117,7 +117,7 @@ module _ {M : Type 1} (𝓤 : URA M) (H : Heap 𝓤) (A : Atoms 𝓤) (W : Given
 
   abbrev Found : FoundYear → Type 0
   Found f =
-      (saidReadAnswer (f .year .answer) ≡ answer) × (headGiven (f .year) ≡ headRead answer (bytes .now))
+      (saidReadAnswer (f .year .answer) ≡ answer) × (headGiven (f .year .head) ≡ headRead answer (bytes .now))
       × keeps (f .records) (termsRead answer (bytes .now)) × (f .records .count ≤ length ys)
 
   -- what the callees are handed

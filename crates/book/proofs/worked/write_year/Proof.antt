@@ -2,14 +2,12 @@
 use mathlib.Core.Path.{_≡_, ap, sym, _∙_, subst}
 use native.Mathlib.Omega.{arith}
 use lib.IntN.{ℤ}
-use lib.ListN.{take}
 use mir.Facts.{toZ-ofZ}
 use borrow.Author.Needs.{needs}
 use Rattle.law.specs.Answer.{refused, done, afterwards}
-use Rattle.law.specs.Document.{epicycles, YearValues, yearAnswer, termValues, termsAnswer}
+use Rattle.law.specs.Document.{epicycles, YearValues, yearAnswer, termsAnswer}
 use Rattle.law.specs.Book.{BookYear, writeAnswer, workedAnswer}
 use Rattle.sun.specs.Said.{saidYear, saidListed, saidTerms, termsListed}
-use Rattle.sun.proofs.Filling.{all-held}
 use Rattle.book.specs.Said.{givenYear}
 use Rattle.book.proofs.WriteAnswers.{tell-refused}
 use Rattle.book.proofs.WorkedAnswers.{YearKnown, year-refused, year-known, terms-known, terms-refused, worked-1, worked-6, worked-5, worked-written, worked-values}
@@ -71,8 +69,8 @@ returns-3 c = let s = c .before .before .before .before .before .before .before 
     let t = tell-refused (s .args .buf .now) (worked-5 epicycles n (s .args .buf .now) (known (c .before .before .before .before .before .before) .test) (omega arith) (q .0) ∙ ap refused (sym (q .1))) in
     (t .says, t .holds)
 
-write-records-requires : tie.Need-write-records-requires
-write-records-requires c κs = search needs
+write-values-requires : tie.Need-write-values-requires
+write-values-requires c κs = search needs
 
 same-length : tie.Need-same-length
 same-length c = search needs
@@ -87,9 +85,9 @@ returns-4 c = let s = c .before .before .before .before .before .before .before 
     let q = terms-known epicycles n (y .test) (subst (λ a. saidListed a (termsListed r) ≡ termsAnswer epicycles n) (c .before .before .before .before .before .enum-told2 .given .1) (said-terms (c .before .before .before .before .before .before .before))) in
     let same : writeAnswer _ b ≡ workedAnswer epicycles n b =
     ap (λ (w : BookYear). writeAnswer w b)
-    (ap (λ (m : ℤ). givenYear m (v .solsticeDay) (v .dutyMansion) (take 24 (r .at))) (toZ-ofZ (s .fits .n)) ∙ worked-values epicycles n (y .name) (y .duty) (all-held (r .at) (termValues epicycles n) (q .1)))
+    (ap (λ (m : ℤ). givenYear (record { n = m; «day_name» = v .solsticeDay; mansion = v .dutyMansion }) (r .at)) (toZ-ofZ (s .fits .n)) ∙ worked-values epicycles n (y .name) (y .duty) (q .1))
     ∙ sym (worked-written epicycles n b (y .test) (omega arith) (omega arith) (q .0)) in
-    (c .before .before .write-records .ensures .0 ∙ ap done same, c .before .before .write-records .ensures .1 ∙ ap (afterwards b) same)
+    (c .before .before .write-values .ensures .0 ∙ ap done same, c .before .before .write-values .ensures .1 ∙ ap (afterwards b) same)
 
 pub write-year-spec : {M : Type 1} → statement M
 write-year-spec =
@@ -104,6 +102,6 @@ write-year-spec =
     enum-told-2
     enum-known-answer
     returns-3
-    write-records-requires
+    write-values-requires
     same-length
     returns-4)

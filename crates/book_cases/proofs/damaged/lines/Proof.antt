@@ -13,12 +13,6 @@ abbrev μ-loop : tie.MeasureT-loop
 base-book-requires : tie.Need-base-book-requires Inv-loop μ-loop
 base-book-requires c κs = search needs
 
-slice-aggregate-rooms : tie.Need-slice-aggregate-rooms Inv-loop μ-loop
-slice-aggregate-rooms c = search needs
-
-rooms-requires : tie.Need-rooms-requires Inv-loop μ-loop
-rooms-requires c κs = search needs
-
 loop-holds : tie.Need-loop-holds Inv-loop μ-loop
 loop-holds c = search needs
 
@@ -50,8 +44,6 @@ lines-spec =
     Inv-loop
     μ-loop
     base-book-requires
-    slice-aggregate-rooms
-    rooms-requires
     loop-holds
     returns
     returns-2

@@ -5,14 +5,14 @@ use borrow.Author.Needs.{needs}
 use Rattle.book_cases.proofs.written.values_into.Statement.{statement}
 use Rattle.book_cases.proofs.written.values_into.Tie as tie
 
-slice-relend-prefix-written-from : tie.Need-slice-relend-prefix-written-from
-slice-relend-prefix-written-from c = search needs
+slice-relend-prefix-write-values : tie.Need-slice-relend-prefix-write-values
+slice-relend-prefix-write-values c = search needs
 
-slice-aggregate-written-from : tie.Need-slice-aggregate-written-from
-slice-aggregate-written-from c = simp length-take (omega arith)
+slice-aggregate-write-values : tie.Need-slice-aggregate-write-values
+slice-aggregate-write-values c = simp length-take (omega arith)
 
-written-from-requires : tie.Need-written-from-requires
-written-from-requires c κs = search needs
+write-values-requires : tie.Need-write-values-requires
+write-values-requires c κs = search needs
 
 answer-requires : tie.Need-answer-requires
 answer-requires c κs = search needs
@@ -30,9 +30,9 @@ pub values-into-spec : {M : Type 1} → statement M
 values-into-spec =
     tie.close
     (tie.spec
-    slice-relend-prefix-written-from
-    slice-aggregate-written-from
-    written-from-requires
+    slice-relend-prefix-write-values
+    slice-aggregate-write-values
+    write-values-requires
     answer-requires
     same-length
     returns
