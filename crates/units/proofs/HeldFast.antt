@@ -17,6 +17,7 @@ use Rattle.units.proofs.refusal.refusal_number as refusal-number
 use Rattle.units.proofs.edge.year_index as year-index
 use Rattle.units.proofs.edge.day_index as day-index
 use Rattle.units.proofs.edge.size as size
+use Rattle.units.proofs.round.half_up as half-up
 use Rattle.units.proofs.seconds.ArcSeconds.of as arc-of
 use Rattle.units.proofs.seconds.ArcSeconds.seconds as arc-seconds
 use Rattle.units.proofs.seconds.ArcSeconds.to_clock as to-clock
@@ -81,6 +82,9 @@ day-index-held M 𝓤 H A mem run κs a = by-facts 𝓤 (λ z z′ w w′ p q. (
 
 pub size-held : Held size.ended (λ M. size.clauses {M = M})
 size-held M 𝓤 H A mem run κs a = by-facts 𝓤 (λ z z′ w w′ p q. (one p q, refl))
+
+pub half-up-held : Held half-up.ended (λ M. half-up.clauses {M = M})
+half-up-held M 𝓤 H A mem run κs a = by-facts 𝓤 (λ z z′ w w′ p q. (one p q, refl))
 
 -- of arc seconds, and of clock seconds
 pub of-held : Held arc-of.ended (λ M. arc-of.clauses {M = M})

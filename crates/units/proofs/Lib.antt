@@ -1,3 +1,4 @@
+pub mod Rounds
 pub mod Machine
 pub mod HeldFast
 pub mod Callers

@@ -3,6 +3,7 @@
 mod answer;
 mod edge;
 mod refusal;
+mod round;
 mod seconds;
 
 pub use answer::Number;
@@ -12,5 +13,6 @@ pub use edge::size;
 pub use edge::year_index;
 pub use refusal::Refusal;
 pub use refusal::refusal_number;
+pub use round::half_up;
 pub use seconds::ArcSeconds;
 pub use seconds::ClockSeconds;
