@@ -12,10 +12,10 @@ use units::Signed;
 ghost use mathlib.Core.Path.{_≡_};
 ghost use Prim.Native.Nat.{_+_, _*_, _-_, _/_, _≤_, _<_, _^_};
 ghost use Rattle.law.specs.Round.{halfUp};
-ghost use Rattle.law.specs.Document.{minute, quarter, half, circle, radius, inCircle, mirrored as mirroredArc, sine, epicycles, equationAnswer};
+ghost use Rattle.law.specs.Document.{minute, quarter, half, circle, inCircle, mirrored as mirroredArc, sine, epicycles, equationAnswer};
 ghost use Rattle.law.specs.Sines.{sines as sineTable};
 ghost use Rattle.law.specs.Tangents.{tangents as tangentTable};
-ghost use Rattle.law.specs.Working.{heightOf, baseOf, tangentOf, angleAnswer, sizeAnswer};
+ghost use Rattle.law.specs.Working.{heightOf, tangentOf, angleAnswer, sizeAnswer};
 ghost use Rattle.units.specs.Said.{saidNumber, saidSigned};
 ghost use Rattle.sun.specs.Said.{numberUpTo};
 ghost use Rattle.sun.specs.Tables.{Laid};
@@ -54,28 +54,12 @@ fn sine_of(x: u64, sines: &[u64; 541]) -> u64
     below + (sines[k + 1] - below) * (x % TEN_MINUTES) / TEN_MINUTES
 }
 
-// Step 1, of the sine or the cosine.
-fn leg(sine: u64) -> u64
-    requires { ⌜ sine ≤ 10_000_000 ⌝ }
-    ensures { λ r. ⌜ r ≡ halfUp (epicycles * sine) radius ⌝ }
-{
-    half_up(EPICYCLES * sine, RADIUS)
-}
-
-struct Legs {
-    height: u64,
-    base: u64,
-}
-
-// Of an arc from the perigee or the apogee, up to a quarter circle.
-fn legs_at(x: u64, sines: &[u64; 541]) -> Legs
+// Step 1, at an arc from the perigee or the apogee, up to a quarter circle. The base is the height at its complement.
+fn height(x: u64, sines: &[u64; 541]) -> u64
     requires { ⌜ (x ≤ quarter) × (now sines ≡ sineTable) ⌝ }
-    ensures { λ r. ⌜ (r .height ≡ heightOf epicycles x) × (r .base ≡ baseOf epicycles x) × (r .height ≤ 179_208) × (r .base ≤ 179_208) ⌝ }
+    ensures { λ r. ⌜ (r ≡ heightOf epicycles x) × (r ≤ 179_208) ⌝ }
 {
-    Legs {
-        height: leg(sine_of(x, sines)),
-        base: leg(sine_of(QUARTER - x, sines)),
-    }
+    half_up(EPICYCLES * sine_of(x, sines), RADIUS)
 }
 
 // Steps 2 and 3: the arc from the perigee, up to a half circle.
@@ -84,11 +68,11 @@ fn tangent(u: u64, sines: &[u64; 541]) -> u64
     ensures { λ r. ⌜ r ≡ tangentOf epicycles u ⌝ }
 {
     if u <= QUARTER {
-        let near = legs_at(u, sines);
-        return half_up(2 * near.height * RADIUS, RADIUS - near.base);
+        let near = height(u, sines);
+        return half_up(2 * near * RADIUS, RADIUS - height(QUARTER - u, sines));
     }
-    let far = legs_at(HALF - u, sines);
-    half_up(2 * far.height * RADIUS, RADIUS + far.base)
+    let far = height(HALF - u, sines);
+    half_up(2 * far * RADIUS, RADIUS + height(u - QUARTER, sines))
 }
 
 // Step 4. Steps of 2,908 to 2,914 put the minute at t / 2,914 or one further.
