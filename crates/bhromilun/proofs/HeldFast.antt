@@ -1,6 +1,6 @@
 -- Each function's promise holds its answer fast, and what is stored. Assumes nothing.
 use mathlib.Core.Path.{_≡_, refl, ap₂}
-use Rattle.law.proofs.HeldFast.{Held, by-facts, one}
+use Rattle.reasoning.proofs.HeldFast.{Held, by-facts, one}
 use Rattle.bhromilun.proofs.reckoning.bhromilun_year as year
 use Rattle.bhromilun.proofs.reckoning.bhromilun_equation as equation
 use Rattle.bhromilun.proofs.reckoning.bhromilun_mean_place as mean-place

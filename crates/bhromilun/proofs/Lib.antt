@@ -1,4 +1,3 @@
 pub mod Plainly
-pub mod FilledColumns
 pub mod HeldFast
 pub mod ReturnTrips

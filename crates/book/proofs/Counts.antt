@@ -5,8 +5,8 @@ use Prim.Native.Nat.{ℕ, _+_, _≤_}
 use native.Mathlib.Omega.{arith}
 use lib.IntN.{ℤ, pos, negℤ, natAbs, _+ℤ_, _-ℤ_}
 use lib.Signed.{ltZ}
-use Rattle.law.proofs.Whole.{Is, is-pos, is-add, is-minus, is-abs, same}
-use Rattle.law.proofs.Edges.{Inside, inside}
+use Rattle.reasoning.proofs.Whole.{Is, is-pos, is-add, is-minus, is-abs, same}
+use Rattle.reasoning.proofs.Inside.{Inside, inside}
 
 pub counted : (lo : ℕ) {z : ℤ} {i : ℕ} → Is z i lo → i ≡ natAbs (z +ℤ pos lo)
 counted lo {z} {i} h = omega (arith, is-abs (is-add h (is-pos lo)) (omega arith))

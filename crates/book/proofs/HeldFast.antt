@@ -4,9 +4,9 @@ use mathlib.Core.List.{List}
 use Prim.Native.Nat.{ℕ}
 use borrow.Fn.Enter.{pair≡}
 use denote.Ref.{ptr, now}
+use Rattle.reasoning.proofs.HeldFast.{Seen, Held, by-facts, one, one-said}
 use Rattle.law.specs.Answer.{Answer, value, refused}
 use Rattle.law.specs.Book.{HeadValues, Checked, sound, faulty, Next, nextYear, bookEnd, stop, Sought, found, unsound, noYear}
-use Rattle.law.proofs.HeldFast.{Seen, Held, by-facts, one, one-said}
 use Rattle.units.proofs.HeldFast.{refusalOf, refusal-back}
 use Rattle.sun.specs.declared.term.TermRecord.{TermRecord}
 use Rattle.sun.proofs.HeldFast.{one-records}

@@ -3,16 +3,12 @@ pub mod YearSteps
 pub mod WhatIsLeft
 pub mod BookSteps
 pub mod Counts
-pub mod Filling
-pub mod HeldRecords
 pub mod ReadValues
 pub mod WriteAnswers
 pub mod WorkedFits
-pub mod WorkedAnswers
 pub mod ThereAndBack
 pub mod BackAndThere
 pub mod WholeBooks
-pub mod HandedParts
 pub mod HeldFast
 pub mod ReaderStays
 pub mod ReaderParts

@@ -7,10 +7,10 @@ use borrow.Author.Tests.{lt-ltb, le-ltb}
 use lib.IntN.{ℤ, pos, _-ℤ_}
 use lib.ListN.{length, length-map, getD, take, drop}
 use lib.Seq.{drop-drop, take-all}
+use Rattle.reasoning.proofs.Whole.{Is, is-pos, is-minus, same}
 use Rattle.law.specs.Answer.{value, refused}
 use Rattle.law.specs.Document.{TermValues, inOrder}
 use Rattle.law.specs.Book.{Checked, twoAt, headSize, yearFrom, termIn, termsIn, valuesIn, readAnswer}
-use Rattle.law.proofs.Whole.{Is, is-pos, is-minus, same}
 use Rattle.law.proofs.InOrder.{in-order-same}
 use Rattle.sun.specs.declared.term.TermRecord.{TermRecord}
 use Rattle.sun.specs.Said.{valuesOf}

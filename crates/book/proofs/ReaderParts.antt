@@ -10,7 +10,7 @@ use Rattle.law.specs.Book.{Next, nextYear, bookEnd, stop, nextAt, handedPart, h
 use Rattle.book.specs.declared.reader.Reader.{Reader}
 use Rattle.book.specs.Reader.{opened, finds, handsOut}
 use Rattle.book.proofs.BookSteps.{next-end}
-use Rattle.book.proofs.HandedParts.{year-within}
+use Rattle.book.proofs.reader.HandedParts.{year-within}
 use Rattle.book.proofs.ReaderStays.{afterCalls, wentOn, isYear, stays-empty}
 
 -- ---- from anywhere

@@ -10,11 +10,11 @@ use lib.Dec.{ltb}
 use lib.IntN.{pos, negℤ, _-ℤ_}
 use lib.ListN.{length, take, drop}
 use lib.Signed.{ltZ}
+use Rattle.reasoning.proofs.Whole.{Is, is-pos, is-neg, is-minus, ltZ-is}
 use Rattle.law.specs.Answer.{Answer, value}
 use Rattle.law.specs.Document.{TermValues, badYear}
 use Rattle.law.specs.Book.{BookYear, Checked, sound, twoAt, yearSize, yearFrom, termsOf, bytesOf, termsIn, valuesIn, readAnswer, headOf, headRead, termsRead, anyBad, badValues, writeAnswer}
 use Rattle.law.proofs.Answers.{PassedAll, passed-all}
-use Rattle.law.proofs.Whole.{Is, is-pos, is-neg, is-minus, ltZ-is}
 use Rattle.book.proofs.RecordAnswers.{both-no}
 use Rattle.book.proofs.YearSteps.{SoundTerms, SoundYear, year-sound}
 use Rattle.book.proofs.ReadValues.{terms-many, read-as}

@@ -14,7 +14,7 @@ use Rattle.law.specs.Document.{badYear}
 use Rattle.law.specs.Book.{Checked, sound, faulty, Sought, found, unsound, noYear, twoAt, bookFrom, bookOf, partsFrom, partsOf, yearSize, seekFrom, seekIn, ifSound, yearCount, seekOf, partOf}
 use Rattle.book.proofs.BookSteps.{next-end, isSound, seek-none, seek-moved, seek-inside}
 use Rattle.book.proofs.WholeBooks.{handed, by-dec}
-use Rattle.book.proofs.HandedParts.{Each149, parts-149}
+use Rattle.book.proofs.reader.HandedParts.{Each149, parts-149}
 
 -- the first part whose N is counted n, empty where there is none
 abbrev pub yearAmong : ℕ → List (List ℕ) → List ℕ

@@ -7,11 +7,11 @@ use native.Mathlib.Nat.{div-lt-iff-lt-mul}
 use native.Mathlib.Omega.{arith}
 use borrow.Author.Tests.{le-ltb}
 use lib.IntN.{ℤ}
+use Rattle.reasoning.proofs.Whole.{is-pos, is-neg, is-le, ltZ-is}
 use Rattle.law.specs.Document.{epicycles, badYear, badDay, badMinute, dayName, mansion, termDay, termMinute, TermValues, termValues, inOrder}
-use Rattle.law.specs.Working.{lift, markOf, placeOf}
 use Rattle.law.specs.Book.{badTermValues, anyBad, badValues, workedYear}
 use Rattle.law.proofs.Floor.{floor-less}
-use Rattle.law.proofs.Whole.{is-pos, is-neg, is-le, ltZ-is}
+use Rattle.motion.specs.Working.{lift, markOf, placeOf}
 use Rattle.motion.proofs.OneDay.{term-day}
 use Rattle.motion.proofs.TermBridge.{term-day-is, term-minute-is}
 use Rattle.motion.proofs.Walk.{dayOf, walk}

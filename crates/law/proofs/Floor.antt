@@ -4,9 +4,9 @@ use Prim.Native.Nat.{ℕ, suc, _+_, _*_, _-_, _/_, _%_, _≤_, _<_}
 use native.Mathlib.Nat.{add-mul, add-mul-div-right, add-mul-mod-self-right, div-lt-iff-lt-mul, lt-div-mul-add, div-mul-le-self, div-add-mod', mod-lt, div-eq-of-lt, mod-eq-of-lt, suc-mul, one-mul, zero-mul, le-div-iff-mul-le}
 use native.Mathlib.Omega.{arith}
 use lib.IntN.{ℤ, pos, negsuc, _+ℤ_, _*ℤ_}
+use Rattle.reasoning.proofs.Whole.{Is, up, down, is-pos, is-neg, is-own, is-add, is-times, same}
 use Rattle.law.specs.Round.{floorDiv, floorMod}
 use Rattle.law.specs.Document.{circle, inCircle}
-use Rattle.law.proofs.Whole.{Is, up, down, is-pos, is-neg, is-own, is-add, is-times, same}
 
 pub div-is : {z : ℤ} {a : ℕ} (q d : ℕ) → 0 < d → Is z a (q * d) → Is (floorDiv z d) (a / d) q
 unfolding floorDiv up down

@@ -1,18 +1,9 @@
-pub mod Every
 pub mod Rules
 pub mod Marked
-pub mod Choice
 pub mod Answers
-pub mod Whole
 pub mod Floor
 pub mod Angles
-pub mod Bridge
-pub mod Clock
 pub mod Sines
-pub mod Root
-pub mod Equations
-pub mod Edges
-pub mod Places
 pub mod InOrder
 pub mod WorkedTerms
 pub mod WorkedLines
@@ -22,6 +13,3 @@ pub mod WorkedLimits
 pub mod WorkedOrders
 pub mod WorkedEdges
 pub mod WorkedAfter
-pub mod LocalTime
-pub mod HeldFast
-pub mod ByHand

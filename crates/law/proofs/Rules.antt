@@ -5,10 +5,10 @@ use Prim.Native.Nat.{ℕ, zero, suc, _+_, _*_, _-_, _≤_, _<_}
 use native.Mathlib.Omega.{arith}
 use lib.Dec.{leb, leb→le}
 use lib.ListN.{List·getD-eq-default}
+use Rattle.reasoning.proofs.Every.{seat, orders}
 use Rattle.law.specs.Sines.{sines}
 use Rattle.law.specs.Tangents.{tangents}
 use Rattle.law.specs.Entry.{lastSine, lastTangent, sineEntry, tangentEntry}
-use Rattle.law.proofs.Every.{seat, orders}
 
 -- ---- the sine table
 

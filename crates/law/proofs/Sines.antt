@@ -1,4 +1,4 @@
--- A sine between two entries: what the code that works it out asks, its bound, and the bounds of height and base. Assumes nothing.
+-- A sine between two entries: what the code that works it out asks, and its bound. Assumes nothing.
 use mathlib.Core.Path.{_≡_, refl}
 use Prim.Native.Nat.{ℕ, _+_, _*_, _-_, _/_, _%_, _^_, _≤_, _<_}
 use native.Mathlib.Decide.{decLt}
@@ -6,9 +6,7 @@ use native.Mathlib.Nat.{mul-zero, mul-le-mul, mul-le-mul-left}
 use native.Mathlib.Omega.{arith}
 use Rattle.law.specs.Entry.{lastSine, sineEntry}
 use Rattle.law.proofs.Rules.{sine-step, sine-top}
-use Rattle.law.specs.Round.{halfUp}
-use Rattle.law.specs.Document.{tenMinutes, quarter, radius, epicycles, between, sine, cosine}
-use Rattle.law.specs.Working.{heightOf, baseOf}
+use Rattle.law.specs.Document.{tenMinutes, quarter, radius, between, sine}
 
 -- at the last entry nothing is over
 pub sine-last : (x : ℕ) → x ≤ quarter → lastSine ≤ x / tenMinutes → sine x ≡ sineEntry (x / tenMinutes)
@@ -53,13 +51,3 @@ sine-le x h = go (decLt (x / tenMinutes) lastSine)
     go : Dec (k < lastSine) → sine x ≤ radius
     go (yes l) = let b = sine-between x (sineEntry k) (sineEntry (k + 1)) refl refl l in omega arith
     go (no l) = omega (arith, sine-last x h (omega arith), sine-top k (omega arith))
-
--- for a difference of the epicycles up to the old one
-module _ (e : ℕ) (o : e ≤ epicycles) (x : ℕ) (h : x ≤ quarter) where
-  pub height-le : heightOf e x ≤ epicycles
-  unfolding heightOf halfUp
-  height-le = omega (arith, mul-le-mul {n₁ = e} {m₁ = sine x} {n₂ = epicycles} {m₂ = radius} o (sine-le x h))
-
-  pub base-le : baseOf e x ≤ epicycles
-  unfolding baseOf cosine halfUp
-  base-le = omega (arith, mul-le-mul {n₁ = e} {m₁ = sine (quarter - x)} {n₂ = epicycles} {m₂ = radius} o (sine-le (quarter - x) (omega arith)))

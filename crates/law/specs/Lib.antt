@@ -5,5 +5,4 @@ pub mod Round
 pub mod Answer
 pub mod Document
 pub mod Request
-pub mod Working
 pub mod Book

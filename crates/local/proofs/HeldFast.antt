@@ -1,8 +1,8 @@
 -- The public function's promise holds its answer fast. Assumes nothing.
 use mathlib.Core.Path.{_≡_, refl, ap}
+use Rattle.reasoning.proofs.HeldFast.{Held, by-facts, one-said}
 use Rattle.law.specs.Answer.{Answer, value, refused}
 use Rattle.law.specs.Document.{LocalValues}
-use Rattle.law.proofs.HeldFast.{Held, by-facts, one-said}
 use Rattle.units.proofs.HeldFast.{refusalOf, refusal-back}
 use Rattle.local.specs.declared.LocalAnswer.{LocalAnswer}
 use Rattle.local.specs.declared.LocalAnswer.the-variants.{Is, Refused}

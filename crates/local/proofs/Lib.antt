@@ -1,1 +1,2 @@
+pub mod LocalTime
 pub mod HeldFast

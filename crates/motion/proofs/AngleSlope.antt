@@ -8,10 +8,10 @@ use native.Mathlib.Omega.{arith}
 use lib.Dec.{lit≤}
 use Rattle.law.specs.Tangents.{tangents}
 use Rattle.law.specs.Entry.{lastTangent, tangentEntry}
-use Rattle.law.proofs.Rules.{tangent-step}
 use Rattle.law.specs.Document.{second, minute, half, epicycles, lastMinute, anglePast, angle}
-use Rattle.law.specs.Working.{tangentOf}
+use Rattle.law.proofs.Rules.{tangent-step}
 use Rattle.law.proofs.Angles.{Last, last-minute, angle-at, angle-end, part-le}
+use Rattle.motion.specs.Working.{tangentOf}
 use Rattle.motion.proofs.Slope.{Gains, gains}
 use Rattle.motion.proofs.Reach.{mostTangent, tangent-le}
 

@@ -5,7 +5,7 @@ use Prim.Native.Nat.{ℕ, suc, _+_, _*_, _%_, _≤_, _<_}
 use native.Mathlib.Nat.{mod-add-mod}
 use native.Mathlib.Omega.{arith}
 use Rattle.law.specs.Document.{second, circle, dailyMotion, epicycles}
-use Rattle.law.specs.Working.{gain, anomalyOf, placeOf}
+use Rattle.motion.specs.Working.{gain, anomalyOf, placeOf}
 use Rattle.motion.proofs.Slope.{Gains}
 use Rattle.motion.proofs.Equation.{added-taken-le}
 use Rattle.motion.proofs.Turns.{Turns, turns-any, turns-own}

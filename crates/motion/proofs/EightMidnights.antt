@@ -6,9 +6,9 @@ use Prim.Native.Nat.{ℕ, suc, _+_, _≤_, _<_}
 use native.Mathlib.Omega.{arith}
 use lib.IntN.{ℤ, pos, _+ℤ_}
 use lib.Signed.{_≤ℤ_, _<ℤ_}
+use Rattle.reasoning.proofs.Whole.{is-pos, is-add, le-is, lt-is}
 use Rattle.law.specs.Document.{epicycles, runOnPlace, mark, start, count}
-use Rattle.law.specs.Working.{markOf, startOf}
-use Rattle.law.proofs.Whole.{is-pos, is-add, le-is, lt-is}
+use Rattle.motion.specs.Working.{markOf, startOf}
 use Rattle.motion.proofs.Walk.{countOf, dayOf, walk, places-gain}
 use Rattle.motion.proofs.TermBridge.{start-is, count-is}
 use Rattle.motion.proofs.Years.{InYears, yearOf, year-is, year-le, place-is}

@@ -5,14 +5,14 @@ use Prim.Native.Nat.{ℕ, _+_, _-_, _≤_, _<_}
 use native.Mathlib.Decide.{decLt}
 use native.Mathlib.Nat.{mul-zero, div-eq-of-lt}
 use native.Mathlib.Omega.{arith}
+use Rattle.reasoning.proofs.Choice.{lt-yes, lt-no, le-yes, le-no}
 use Rattle.law.specs.Round.{halfUp}
 use Rattle.law.specs.Document.{circle, half, quarter, radius, epicycles, mirrored, angle}
-use Rattle.law.specs.Working.{heightOf, baseOf, nearOf, farOf, tangentOf, added, taken}
-use Rattle.law.proofs.Choice.{lt-yes, lt-no, le-yes, le-no}
-use Rattle.law.proofs.Bridge.{mirrored-low, mirrored-high, tangent-is}
+use Rattle.motion.specs.Working.{heightOf, baseOf, nearOf, farOf, tangentOf, added, taken}
+use Rattle.motion.proofs.Bridge.{mirrored-low, mirrored-high, tangent-is}
 use Rattle.motion.proofs.SineSlope.{sine-0°}
 use Rattle.motion.proofs.Reach.{base-is}
-use Rattle.law.proofs.Sines.{base-le}
+use Rattle.motion.proofs.Legs.{base-le}
 use Rattle.motion.proofs.AngleSlope.{angle-0, mostEquation, equationOf, equation-le}
 
 -- ---- by the near and the far tangent

@@ -4,11 +4,11 @@ use mathlib.Core.Path.{_≡_, refl, ap, _∙_, subst}
 use Prim.Native.Nat.{ℕ, suc, _+_, _*_, _-_, _/_, _≤_, _<_}
 use native.Mathlib.Decide.{decLt}
 use native.Mathlib.Omega.{arith}
+use Rattle.reasoning.proofs.Choice.{lt-yes, lt-no}
 use Rattle.law.specs.Answer.{value, refused}
 use Rattle.law.specs.Document.{second, degree, dailyMotion, epicycles, offTable}
-use Rattle.law.specs.Working.{rootOf, anomalyOf, lift, placeOf, placeAnswer, markOf, startOf, visited, minuteBetween, Find, findFrom, findOf}
 use Rattle.law.proofs.Answers.{passed, stopped}
-use Rattle.law.proofs.Choice.{lt-yes, lt-no}
+use Rattle.motion.specs.Working.{rootOf, anomalyOf, lift, placeOf, placeAnswer, markOf, startOf, visited, minuteBetween, Find, findFrom, findOf}
 use Rattle.motion.proofs.DailyMotion.{place-next}
 use Rattle.motion.proofs.Walk.{start-le, start-before, start-after}
 use Rattle.motion.proofs.NeverOffTable.{never-off-table}

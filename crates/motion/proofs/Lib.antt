@@ -1,3 +1,6 @@
+pub mod Root
+pub mod Bridge
+pub mod Legs
 pub mod HalfUp
 pub mod Slope
 pub mod SineSlope

@@ -4,11 +4,11 @@ use mathlib.Core.Bool.{false}
 use Prim.Native.Nat.{ℕ, _≤_}
 use native.Mathlib.Decide.{decLe}
 use native.Mathlib.Omega.{arith}
+use Rattle.reasoning.proofs.Choice.{lt-no}
 use Rattle.law.specs.Entry.{lastTangent, tangentEntry}
-use Rattle.law.proofs.Rules.{tangent-range}
 use Rattle.law.specs.Document.{half, epicycles, mirrored, tangent, offTable}
-use Rattle.law.proofs.Choice.{lt-no}
-use Rattle.law.proofs.Bridge.{mirrored-low, mirrored-high, tangent-is}
+use Rattle.law.proofs.Rules.{tangent-range}
+use Rattle.motion.proofs.Bridge.{mirrored-low, mirrored-high, tangent-is}
 use Rattle.motion.proofs.Reach.{tangent-le}
 
 mirrored-le : (a : ℕ) → mirrored a ≤ half

@@ -5,9 +5,9 @@ use Prim.Native.Nat.{ℕ, _+_, _≤_, _<_}
 use native.Mathlib.Omega.{arith}
 use lib.IntN.{ℤ, pos, negℤ, natAbs, _+ℤ_}
 use lib.Signed.{_≤ℤ_}
+use Rattle.reasoning.proofs.Whole.{is-pos, is-neg, is-next, is-from, same, is-le, is-lt, le-is, lt-is}
 use Rattle.law.specs.Document.{epicycles, mark, termDay}
-use Rattle.law.specs.Working.{lift, markOf}
-use Rattle.law.proofs.Whole.{is-pos, is-neg, is-next, is-from, same, is-le, is-lt, le-is, lt-is}
+use Rattle.motion.specs.Working.{lift, markOf}
 use Rattle.motion.proofs.Walk.{dayOf, start-le, walk, one-day}
 use Rattle.motion.proofs.TermBridge.{term-day-is}
 use Rattle.motion.proofs.Years.{InYears, Holds, yearOf, year-is, year-le, place-is}

@@ -6,15 +6,15 @@ use native.Mathlib.Nat.{mul-le-mul-left, div-lt-iff-lt-mul}
 use native.Mathlib.Decide.{decLt, decLe}
 use native.Mathlib.Omega.{arith}
 use lib.Dec.{leb, leb→le}
+use Rattle.reasoning.proofs.Every.{seat}
+use Rattle.reasoning.proofs.Choice.{le-yes, le-no}
 use Rattle.law.specs.Sines.{sines}
 use Rattle.law.specs.Entry.{lastSine, sineEntry}
-use Rattle.law.proofs.Every.{seat}
-use Rattle.law.proofs.Rules.{sine-step}
 use Rattle.law.specs.Round.{halfUp}
 use Rattle.law.specs.Document.{half, quarter, radius, epicycles, tenMinutes, sine, cosine}
-use Rattle.law.specs.Working.{heightOf, baseOf, nearOf, farOf, tangentOf}
-use Rattle.law.proofs.Choice.{le-yes, le-no}
-use Rattle.law.proofs.Sines.{height-le, base-le}
+use Rattle.law.proofs.Rules.{sine-step}
+use Rattle.motion.specs.Working.{heightOf, baseOf, nearOf, farOf, tangentOf}
+use Rattle.motion.proofs.Legs.{height-le, base-le}
 use Rattle.motion.proofs.Slope.{full, between-le}
 
 abbrev pub mostTangent : ℕ

@@ -4,8 +4,8 @@ use Prim.Native.Nat.{ℕ, suc, _≤_}
 use native.Mathlib.Omega.{arith}
 use lib.IntN.{ℤ, pos, negℤ, natAbs, _+ℤ_, _-ℤ_}
 use lib.Signed.{_≤ℤ_, _<ℤ_}
+use Rattle.reasoning.proofs.Whole.{Is, is-pos, is-minus, is-from, lt-is}
 use Rattle.law.specs.Document.{epicycles, runOnPlace}
-use Rattle.law.proofs.Whole.{Is, is-pos, is-minus, is-from, lt-is}
 use Rattle.motion.proofs.DailyMotion.{place-next}
 use Rattle.motion.proofs.Years.{InYears, yearOf, place-is}
 

@@ -4,11 +4,11 @@ use mathlib.Core.Bool.{Bool}
 use Prim.Native.Nat.{ℕ, _+_, _*_, _-_, _≤_, _<_}
 use native.Mathlib.Omega.{arith}
 use lib.Dec.{T, leb, leb→le}
+use Rattle.reasoning.proofs.Every.{every, seat}
 use Rattle.law.specs.Sines.{sines}
 use Rattle.law.specs.Entry.{lastSine, sineEntry}
-use Rattle.law.proofs.Every.{every, seat}
-use Rattle.law.proofs.Rules.{sine-step, sine-ends}
 use Rattle.law.specs.Document.{quarter, tenMinutes, sine}
+use Rattle.law.proofs.Rules.{sine-step, sine-ends}
 use Rattle.motion.proofs.Slope.{Gains, Steps, Climbs, between-entry, between-climbs}
 
 -- the step k entries on from entry p is at most d

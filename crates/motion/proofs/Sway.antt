@@ -9,12 +9,12 @@ use Rattle.law.specs.Sines.{sines}
 use Rattle.law.specs.Entry.{lastSine, sineEntry}
 use Rattle.law.specs.Round.{halfUp}
 use Rattle.law.specs.Document.{quarter, radius, epicycles, tenMinutes, between, sine, cosine, angle}
-use Rattle.law.specs.Working.{heightOf, baseOf, nearOf, farOf}
+use Rattle.motion.specs.Working.{heightOf, baseOf, nearOf, farOf}
 use Rattle.motion.proofs.HalfUp.{half-up-apart}
 use Rattle.motion.proofs.Slope.{Steps, Climbs}
 use Rattle.motion.proofs.SineSlope.{all-steps, steps-from-90, steps-from-443, sine-climbs}
 use Rattle.motion.proofs.Reach.{mostTangent, base-is, near-le, far-le}
-use Rattle.law.proofs.Sines.{base-le}
+use Rattle.motion.proofs.Legs.{base-le}
 use Rattle.motion.proofs.AngleSlope.{steepest, angle-rises, angle-within}
 
 -- ---- the height and the base

@@ -7,13 +7,13 @@ use native.Mathlib.Nat.{zero-add}
 use native.Mathlib.Omega.{arith}
 use lib.IntN.{ℤ, pos, _+ℤ_, _-ℤ_}
 use lib.Signed.{ltZ}
+use Rattle.reasoning.proofs.Choice.{lt-no}
+use Rattle.reasoning.proofs.Whole.{Is, is-pos, is-minus, same}
+use Rattle.reasoning.proofs.Inside.{Inside}
 use Rattle.law.specs.Answer.{value}
 use Rattle.law.specs.Document.{epicycles, anomaly, runOnPlace, mark, start, offTable, visitsOff, offTerm, termValues, termAnswer, inOrder, offBelow, termsAnswer}
-use Rattle.law.specs.Working.{Find, findFrom, findOf, termOf}
-use Rattle.law.proofs.Choice.{lt-no}
-use Rattle.law.proofs.Whole.{Is, is-pos, is-minus, same}
-use Rattle.law.proofs.Edges.{Inside}
 use Rattle.law.proofs.InOrder.{in-order-same}
+use Rattle.motion.specs.Working.{Find, findFrom, findOf, termOf}
 use Rattle.motion.proofs.NeverOffTable.{never-off-table}
 use Rattle.motion.proofs.TermBridge.{count-is, term-day-is, term-minute-is}
 

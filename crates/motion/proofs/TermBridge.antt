@@ -7,12 +7,12 @@ use native.Mathlib.Omega.{arith}
 use lib.Dec.{ltb}
 use lib.IntN.{ℤ, pos, natAbs, _-ℤ_}
 use lib.Signed.{ltZ}
+use Rattle.reasoning.proofs.Whole.{Is, is-pos, is-next, is-add, is-minus, is-abs, ltZ-is}
 use Rattle.law.specs.Document.{dailyMotion, epicycles, root, runOnPlace, mark, start, visits, count, termDay, minuteOn, termMinute}
-use Rattle.law.specs.Working.{rootOf, lift, placeOf, markOf, startOf, visited}
-use Rattle.law.proofs.Whole.{Is, is-pos, is-next, is-add, is-minus, is-abs, ltZ-is}
 use Rattle.law.proofs.Floor.{div-is}
-use Rattle.law.proofs.Bridge.{root-is, run-on-is}
-use Rattle.law.proofs.Root.{root-of-le}
+use Rattle.motion.specs.Working.{rootOf, lift, placeOf, markOf, startOf, visited}
+use Rattle.motion.proofs.Bridge.{root-is, run-on-is}
+use Rattle.motion.proofs.Root.{root-of-le}
 use Rattle.motion.proofs.Walk.{countOf, dayOf, walk}
 
 -- the walk, over any place that its working form lifts by s

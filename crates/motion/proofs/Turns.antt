@@ -6,7 +6,7 @@ use native.Mathlib.Decide.{decLt, decLe}
 use native.Mathlib.Nat.{mod-eq-of-lt, mul-le-mul-right}
 use native.Mathlib.Omega.{arith}
 use Rattle.law.specs.Document.{circle, half, quarter, epicycles, tenMinutes, angle}
-use Rattle.law.specs.Working.{farOf, added, taken}
+use Rattle.motion.specs.Working.{farOf, added, taken}
 use Rattle.motion.proofs.Sway.{Sway, near-climbs, near-falls, far-rises, far-climbs, far-climbs-own}
 use Rattle.motion.proofs.AngleSlope.{equationOf}
 use Rattle.motion.proofs.Equation.{by-near, by-far, equation-0°, equation-180°, added-low, added-high, taken-low, taken-high}

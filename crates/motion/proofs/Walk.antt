@@ -4,10 +4,10 @@ use mathlib.Core.Path.{_≡_}
 use Prim.Native.Nat.{ℕ, zero, suc, _+_, _*_, _-_, _≤_, _<_}
 use native.Mathlib.Decide.{decLt}
 use native.Mathlib.Omega.{arith}
+use Rattle.reasoning.proofs.Choice.{lt-yes, lt-no}
 use Rattle.law.specs.Document.{second, dailyMotion, epicycles}
-use Rattle.law.specs.Working.{rootOf, anomalyOf, headroom, lift, placeOf, markOf, startOf, visited}
-use Rattle.law.proofs.Choice.{lt-yes, lt-no}
-use Rattle.law.proofs.Root.{root-of-le}
+use Rattle.motion.specs.Working.{rootOf, anomalyOf, headroom, lift, placeOf, markOf, startOf, visited}
+use Rattle.motion.proofs.Root.{root-of-le}
 use Rattle.motion.proofs.Slope.{Gains, gains}
 use Rattle.motion.proofs.AngleSlope.{mostEquation}
 use Rattle.motion.proofs.Equation.{added-taken-le}

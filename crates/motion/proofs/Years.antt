@@ -5,11 +5,11 @@ use Prim.Native.Nat.{ℕ, _≤_}
 use native.Mathlib.Omega.{arith}
 use lib.IntN.{ℤ, pos, negℤ, natAbs, _+ℤ_}
 use lib.Signed.{ltZ, _≤ℤ_, _<ℤ_, ltZ-no}
+use Rattle.reasoning.proofs.Whole.{Is, is-pos, is-le, is-from}
+use Rattle.reasoning.proofs.Inside.{neither}
 use Rattle.law.specs.Document.{badYear, runOnPlace}
-use Rattle.law.specs.Working.{lift, placeOf}
-use Rattle.law.proofs.Whole.{Is, is-pos, is-le, is-from}
-use Rattle.law.proofs.Edges.{neither}
-use Rattle.law.proofs.Bridge.{run-on-is}
+use Rattle.motion.specs.Working.{lift, placeOf}
+use Rattle.motion.proofs.Bridge.{run-on-is}
 
 -- N is from -2,000 to 2,000
 pub record InYears (N : ℤ) : Type 0 where

@@ -4,7 +4,7 @@ use mathlib.Core.List.{List, _++_}
 use Prim.Native.Nat.{ℕ}
 use borrow.Fn.Enter.{pair≡}
 use lib.ListN.{length, take, drop, take-append-drop}
-use Rattle.law.proofs.HeldFast.{Held, by-facts, one, one-said}
+use Rattle.reasoning.proofs.HeldFast.{Held, by-facts, one, one-said}
 use Rattle.units.specs.Said.{saidSigned}
 use Rattle.units.proofs.HeldFast.{signedFrom, signed-back}
 use Rattle.request.specs.declared.line.Line.{Line}

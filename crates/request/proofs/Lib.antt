@@ -1,8 +1,5 @@
 pub mod ReadLine
-pub mod Grows
-pub mod Copies
 pub mod InBlocks
 pub mod FirstLine
 pub mod FiveBytes
-pub mod Feeding
 pub mod HeldFast

@@ -11,10 +11,10 @@ use lib.Dec.{ltb, eqb}
 use lib.IntN.{ℤ}
 use lib.ListN.{length, drop, getD, drop-of-length-le}
 use lib.Seq.{drop-cons}
+use Rattle.reasoning.proofs.Choice.{lt-yes, lt-no}
 use Rattle.law.specs.Answer.{refused, refusing}
 use Rattle.law.specs.Document.{badYear}
 use Rattle.law.specs.Request.{numberFrom, signedBy, oneToFour, lineAsks}
-use Rattle.law.proofs.Choice.{lt-yes, lt-no}
 use Rattle.request.specs.declared.line.Line.{Line}
 use Rattle.request.specs.declared.line.Line.the-variants.{Empty, Digits, NoYear}
 use Rattle.request.specs.Reading.{lineStep, lineEnd, lineAfter}

@@ -8,11 +8,11 @@ use borrow.Author.Tests.{lt-ltb, le-ltb}
 use lib.IntN.{ℤ}
 use lib.ListN.{length, take, drop, length-map}
 use lib.Seq.{take-all}
+use Rattle.reasoning.proofs.Inside.{Inside}
 use Rattle.law.specs.Answer.{Answer, value, refused}
 use Rattle.law.specs.Document.{epicycles, badYear, TermValues, inOrder, fillAnswer, filled}
-use Rattle.law.specs.Working.{termOf}
-use Rattle.law.proofs.Edges.{Inside}
 use Rattle.law.proofs.InOrder.{in-order-length}
+use Rattle.motion.specs.Working.{termOf}
 use Rattle.motion.proofs.TermAnswers.{terms-value}
 use Rattle.sun.specs.declared.term.TermRecord.{TermRecord}
 use Rattle.sun.specs.declared.records.Records.{Records}

@@ -1,9 +1,9 @@
 -- Each public function's promise holds its answer fast. Assumes nothing.
 use mathlib.Core.Path.{_≡_, refl, ap, ap₂, sym, _∙_}
 use mathlib.Core.List.{List, [], _∷_, map}
+use Rattle.reasoning.proofs.HeldFast.{Held, by-facts, one, one-said}
 use Rattle.law.specs.Answer.{Answer, value, refused}
 use Rattle.law.specs.Document.{epicycles, YearValues, TermValues, termsAnswer}
-use Rattle.law.proofs.HeldFast.{Held, by-facts, one, one-said}
 use Rattle.units.specs.Said.{saidNumber, saidSigned}
 use Rattle.units.proofs.HeldFast.{refusalOf, refusal-back, numberFrom, number-back, signedFrom, signed-back}
 use Rattle.sun.specs.declared.year.YearAnswer.{YearAnswer}

@@ -1,4 +1,3 @@
 pub mod HeldFast
-pub mod Midnights
 pub mod Filling
 pub mod LentList

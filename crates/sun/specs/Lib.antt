@@ -1,3 +1,4 @@
+pub mod YearAndDay
 pub mod Said
 pub mod Tables
 pub mod Walks

@@ -5,10 +5,11 @@ use lib.IntN.{pos}
 use lib.ListN.{replicate}
 use Rattle.law.specs.Answer.{Answer, value, refused}
 use Rattle.law.specs.Document.{YearValues, TermValues}
+use Rattle.motion.specs.Working.{Find}
 use Rattle.units.specs.Said.{numberOf}
 use Rattle.units.specs.declared.answer.Number.{Number}
 use Rattle.units.specs.declared.answer.Number.the-variants as number
-use Rattle.law.specs.Working.{Midnights, Find}
+use Rattle.sun.specs.YearAndDay.{Midnights}
 use Rattle.sun.specs.declared.place.Midnight.{Midnight}
 use Rattle.sun.specs.declared.place.Midnight.the-variants as midnight
 use Rattle.sun.specs.declared.term.Found.{Found}

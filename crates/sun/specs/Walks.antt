@@ -2,7 +2,7 @@
 use mathlib.Core.Path.{_≡_}
 use Prim.Native.Nat.{ℕ, _+_, _-_, _≤_, _<_}
 use Rattle.law.specs.Document.{epicycles}
-use Rattle.law.specs.Working.{rootOf, placeOf}
+use Rattle.motion.specs.Working.{rootOf, placeOf}
 
 pub record Underway (y root mark left j before seen : ℕ) : Type 0 where
   pub year : y ≤ 4_000

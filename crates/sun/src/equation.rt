@@ -15,7 +15,7 @@ ghost use Rattle.law.specs.Round.{halfUp};
 ghost use Rattle.law.specs.Document.{minute, quarter, half, circle, inCircle, mirrored as mirroredArc, sine, epicycles, equationAnswer};
 ghost use Rattle.law.specs.Sines.{sines as sineTable};
 ghost use Rattle.law.specs.Tangents.{tangents as tangentTable};
-ghost use Rattle.law.specs.Working.{heightOf, tangentOf, angleAnswer, sizeAnswer};
+ghost use Rattle.motion.specs.Working.{heightOf, tangentOf, angleAnswer, sizeAnswer};
 ghost use Rattle.units.specs.Said.{saidNumber, saidSigned};
 ghost use Rattle.sun.specs.Said.{numberUpTo};
 ghost use Rattle.sun.specs.Tables.{Laid};

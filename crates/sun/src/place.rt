@@ -13,8 +13,9 @@ use units::Signed;
 ghost use mathlib.Core.Path.{_≡_};
 ghost use Prim.Native.Nat.{_≤_, _<_};
 ghost use Rattle.law.specs.Document.{circle, epicycles, meanAnswer, trueAnswer, runOnAnswer};
-ghost use Rattle.law.specs.Working.{rootOf, anomalyOf, placeAnswer, midnightAnswer, liftedAnswer};
+ghost use Rattle.motion.specs.Working.{rootOf, anomalyOf, placeAnswer};
 ghost use Rattle.units.specs.Said.{saidNumber, saidSigned};
+ghost use Rattle.sun.specs.YearAndDay.{midnightAnswer, liftedAnswer};
 ghost use Rattle.sun.specs.Said.{saidMidnight, numberUpTo};
 ghost use Rattle.sun.specs.Tables.{Laid};
 

@@ -10,7 +10,7 @@ ghost use mathlib.Core.Path.{_≡_};
 ghost use Prim.Native.Nat.{_≤_};
 ghost use Rattle.law.specs.Answer.{value};
 ghost use Rattle.law.specs.Document.{epicycles, inOrder, termAnswer, termsAnswer};
-ghost use Rattle.law.specs.Working.{rootOf, placeOf, findFrom, findOf, termOf};
+ghost use Rattle.motion.specs.Working.{rootOf, placeOf, findFrom, findOf, termOf};
 ghost use Rattle.sun.specs.Tables.{Laid};
 ghost use Rattle.sun.specs.Walks.{Underway};
 ghost use Rattle.sun.specs.Said.{saidFound, saidTerm, saidTerms, termsListed, heldTerms, findUpTo};

@@ -9,7 +9,7 @@ use units::Refusal;
 ghost use mathlib.Core.Path.{_≡_};
 ghost use Prim.Native.Nat.{_≤_};
 ghost use Rattle.law.specs.Document.{yearAnswer};
-ghost use Rattle.law.specs.Working.{solsticeOf, rootFrom, rootOf};
+ghost use Rattle.motion.specs.Working.{solsticeOf, rootFrom, rootOf};
 ghost use Rattle.sun.specs.Said.{saidYear};
 
 pub struct Year {

@@ -1,6 +1,6 @@
 -- Each public function's promise holds its answer fast. Assumes nothing.
 use mathlib.Core.Path.{refl}
-use Rattle.law.proofs.HeldFast.{Held, by-facts, one}
+use Rattle.reasoning.proofs.HeldFast.{Held, by-facts, one}
 use Rattle.tables.proofs.sine_entry as sine-entry
 use Rattle.tables.proofs.tangent_entry as tangent-entry
 use Rattle.tables.proofs.sine_table as sine-table

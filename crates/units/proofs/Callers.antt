@@ -7,14 +7,15 @@ use lib.IntN.{ℤ}
 use mir.Syntax.{w64}
 use mir.Val.{SFits}
 use mir.Facts.{toZ-ofZ}
+use Rattle.reasoning.proofs.Inside.{Inside}
 use Rattle.law.specs.Answer.{Answer}
 use Rattle.law.specs.Document.{badYear, badDay}
-use Rattle.law.specs.Working.{yearIndex, dayIndex}
-use Rattle.law.proofs.Edges.{Inside, year-in, year-out, day-in, day-out}
+use Rattle.units.specs.Edges.{yearIndex, dayIndex}
 use Rattle.units.specs.declared.answer.Number.{Number}
 use Rattle.units.specs.declared.answer.Number.the-variants.{Is, Refused}
 use Rattle.units.specs.declared.refusal.Refusal.{Refusal}
 use Rattle.units.specs.Said.{saidNumber}
+use Rattle.units.proofs.Edges.{year-in, year-out, day-in, day-out}
 use Rattle.units.proofs.Machine.{read}
 
 -- an answer r to the reading of z, which turned out to be s, is the answer to z itself

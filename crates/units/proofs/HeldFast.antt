@@ -4,8 +4,8 @@ use mathlib.Core.Bool.{cond}
 use Prim.Native.Nat.{ℕ}
 use lib.Dec.{eqb}
 use lib.IntN.{ℤ}
+use Rattle.reasoning.proofs.HeldFast.{Held, by-facts, one, one-said}
 use Rattle.law.specs.Answer.{Answer, value, refused}
-use Rattle.law.proofs.HeldFast.{Held, by-facts, one, one-said}
 use Rattle.units.specs.declared.refusal.Refusal.{Refusal}
 use Rattle.units.specs.declared.refusal.Refusal.the-variants.{YearOutside, DayOrMinuteOutside, TermAbove, LongitudeBeyond, TangentAbove, TooShort, RecordCutOff, KindUnknown, FieldOutside, OutOfTurn, NotAYear, YearAbsent}
 use Rattle.units.specs.declared.answer.Number.{Number}

@@ -1,4 +1,5 @@
-pub mod Rounds
+pub mod Clock
+pub mod Edges
 pub mod Machine
 pub mod HeldFast
 pub mod Callers

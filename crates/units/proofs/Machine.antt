@@ -11,7 +11,7 @@ use mir.Syntax.{Width}
 use mir.Val.{Fits, SFits, hbits, bits, toZ, ofZ}
 use mir.Facts.{toZ-ofZ, toZ-pos}
 use borrow.Author.Tests.{ltb-true}
-use Rattle.law.proofs.Whole.{Is, up, down, is-pos, is-neg, is-add, is-minus, is-le, is-from, same}
+use Rattle.reasoning.proofs.Whole.{Is, up, down, is-pos, is-neg, is-add, is-minus, is-le, is-from, same}
 
 -- ---- what a machine number holds, read as one number less another
 

@@ -3,7 +3,7 @@ use crate::answer::Number;
 use crate::refusal::Refusal;
 ghost use mathlib.Core.Path.{_≡_};
 ghost use lib.IntN.{natAbs};
-ghost use Rattle.law.specs.Working.{yearIndex, dayIndex};
+ghost use Rattle.units.specs.Edges.{yearIndex, dayIndex};
 ghost use Rattle.units.specs.Said.{saidNumber};
 
 // N + 2,000, or refusal 1.

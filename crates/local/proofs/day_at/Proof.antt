@@ -3,7 +3,7 @@ use Prim.Native.Nat.{_/_}
 use native.Mathlib.Omega.{arith}
 use mir.Syntax.{w64}
 use borrow.Author.Needs.{needs}
-use Rattle.law.proofs.Whole.{is-pos, is-minus, same}
+use Rattle.reasoning.proofs.Whole.{is-pos, is-minus, same}
 use Rattle.units.proofs.Machine.{Lowered, lowered}
 use Rattle.local.proofs.day_at.Statement.{statement}
 use Rattle.local.proofs.day_at.Tie as tie

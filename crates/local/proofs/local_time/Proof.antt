@@ -9,13 +9,13 @@ use mir.Syntax.{w64}
 use mir.Val.{SFits}
 use mir.Facts.{toZ-ofZ}
 use borrow.Author.Needs.{needs, sfits-of}
+use Rattle.reasoning.proofs.Inside.{Inside}
 use Rattle.law.specs.Document.{clockOfArc, badLongitude}
-use Rattle.law.specs.Working.{dayIndex}
-use Rattle.law.proofs.Edges.{Inside}
-use Rattle.law.proofs.LocalTime.{half-a-day, local-bad-day, local-bad-minute, local-bad-longitude, local-is}
+use Rattle.units.specs.Edges.{dayIndex}
 use Rattle.units.specs.Said.{saidNumber}
 use Rattle.units.proofs.Callers.{told, day-known}
 use Rattle.units.proofs.Machine.{read, inside, below, above}
+use Rattle.local.proofs.LocalTime.{half-a-day, local-bad-day, local-bad-minute, local-bad-longitude, local-is}
 use Rattle.local.proofs.local_time.Statement.{statement}
 use Rattle.local.proofs.local_time.Tie as tie
 

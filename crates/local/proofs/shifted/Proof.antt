@@ -6,7 +6,7 @@ use lib.IntN.{pos, natAbs}
 use mir.Syntax.{w64}
 use mir.Facts.{toZ-ofZ}
 use borrow.Author.Needs.{needs}
-use Rattle.law.proofs.Whole.{is-pos, is-neg, is-add, same}
+use Rattle.reasoning.proofs.Whole.{is-pos, is-neg, is-add, same}
 use Rattle.units.proofs.Machine.{Negative, negative, Positive, positive}
 use Rattle.local.proofs.shifted.Statement.{statement}
 use Rattle.local.proofs.shifted.Tie as tie

@@ -9,7 +9,7 @@ use borrow.Author.Needs.{needs, sfits-of}
 use mir.Facts.{toZ-ofZ}
 use Rattle.sun.specs.Records.{blank}
 use Rattle.sun.specs.Said.{valuesOf}
-use Rattle.bhromilun.proofs.FilledColumns.{Column, more, all}
+use Rattle.bhromilun.proofs.columns.FilledColumns.{Column, more, all}
 use Rattle.bhromilun.proofs.columns.columns_of.Statement.{statement}
 use Rattle.bhromilun.proofs.columns.columns_of.Tie as tie
 

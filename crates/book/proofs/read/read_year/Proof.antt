@@ -38,9 +38,9 @@ use denote.Triple.Spec.{Meets, tripleOf}
 use denote.Triple.Table.{entered, cited}
 use denote.Triple.Walked.{says, Stays, stay-none-slice, gave-slice, walkOf, goes-none-slice, goes-gave-slice, Walks, ends-at, walked, walk-meets}
 use denote.Exit.{yes}
+use Rattle.reasoning.proofs.ByHand.{answered, plainly}
 use Rattle.law.specs.Answer.{Answer}
 use Rattle.law.specs.Book.{Checked, readAnswer, headRead, termsRead}
-use Rattle.law.proofs.ByHand.{answered, plainly}
 use Rattle.sun.specs.declared.term.TermRecord.{TermRecord}
 use Rattle.sun.specs.declared.records.Records.{Records}
 use Rattle.sun.specs.Said.{valuesOf}

@@ -44,14 +44,14 @@ use denote.Triple.Entry.{onEntry}
 use denote.Triple.Spec.{Meets, tripleOf}
 use denote.Triple.Table.{entered, cited}
 use denote.Triple.Walked.{says, Stays, stay-ref, walkOf, goes-ref, Walks, ends-at, walked, walk-meets}
+use Rattle.reasoning.proofs.ByHand.{answered, plainly}
 use Rattle.law.specs.Book.{byteAfter, leastThen}
-use Rattle.law.proofs.ByHand.{answered, plainly}
 use Rattle.book.specs.Said.{saidNext}
 use Rattle.book.specs.Reader.{placeIn, finds, handsOut, handsFrom, goneOn, bytesFrom, startFrom}
 use Rattle.book.specs.declared.reader.Reader.{Reader}
 use Rattle.book.specs.declared.reader.Handed.{Handed}
 use Rattle.book.specs.declared.reader.Step.{Step}
-use Rattle.book.proofs.HandedParts.{part-handed}
+use Rattle.book.proofs.reader.HandedParts.{part-handed}
 use Rattle.book.proofs.reader.Reader as reader
 use Rattle.book.proofs.reader.Reader.Laws as reader-laws
 use Rattle.book.proofs.reader.Handed as handed

@@ -2,7 +2,7 @@
 use mathlib.Core.Path.{sym, ap}
 use borrow.Author.Needs.{needs}
 use Rattle.book.specs.Reader.{placeIn}
-use Rattle.book.proofs.HandedParts.{part-within, part-past, part-none}
+use Rattle.book.proofs.reader.HandedParts.{part-within, part-past, part-none}
 use Rattle.book.proofs.reader.part_between.Statement.{statement}
 use Rattle.book.proofs.reader.part_between.Tie as tie
 

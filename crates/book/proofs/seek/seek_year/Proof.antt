@@ -3,9 +3,10 @@ use mathlib.Core.Path.{_≡_, ap, sym, _∙_, subst}
 use Prim.Native.Nat.{ℕ}
 use mir.Facts.{toZ-ofZ}
 use borrow.Author.Needs.{needs}
-use Rattle.law.specs.Working.{yearIndex}
-use Rattle.law.proofs.Edges.{Inside, year-in, year-out}
+use Rattle.reasoning.proofs.Inside.{Inside}
+use Rattle.units.specs.Edges.{yearIndex}
 use Rattle.units.specs.Said.{saidNumber}
+use Rattle.units.proofs.Edges.{year-in, year-out}
 use Rattle.book.proofs.Counts.{counted}
 use Rattle.book.proofs.BookSteps.{toSeek, seek-outside, seek-inside}
 use Rattle.book.proofs.seek.seek_year.Statement.{statement}

@@ -10,7 +10,7 @@ use Rattle.law.specs.Book.{BookYear, writeAnswer, workedAnswer}
 use Rattle.sun.specs.Said.{saidYear, saidListed, saidTerms, termsListed}
 use Rattle.book.specs.Said.{givenYear}
 use Rattle.book.proofs.WriteAnswers.{tell-refused}
-use Rattle.book.proofs.WorkedAnswers.{YearKnown, year-refused, year-known, terms-known, terms-refused, worked-1, worked-6, worked-5, worked-written, worked-values}
+use Rattle.book.proofs.worked.WorkedAnswers.{YearKnown, year-refused, year-known, terms-known, terms-refused, worked-1, worked-6, worked-5, worked-written, worked-values}
 use Rattle.book.proofs.worked.write_year.Statement.{statement}
 use Rattle.book.proofs.worked.write_year.Tie as tie
 

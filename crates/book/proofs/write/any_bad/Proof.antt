@@ -8,7 +8,7 @@ use borrow.Author.Needs.{needs}
 use Rattle.law.specs.Book.{anyBad}
 use Rattle.sun.specs.Said.{valuesOf}
 use Rattle.sun.specs.Records.{blank}
-use Rattle.book.proofs.Filling.{bad-none, bad-here, bad-later, term-next}
+use Rattle.book.proofs.write.Filling.{bad-none, bad-here, bad-later, term-next}
 use Rattle.book.proofs.write.any_bad.Statement.{statement}
 use Rattle.book.proofs.write.any_bad.Tie as tie
 

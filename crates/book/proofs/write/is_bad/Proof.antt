@@ -4,9 +4,9 @@ use mir.Facts.{toZ-ofZ}
 use mir.Syntax.{w64}
 use mir.Val.{SFits}
 use borrow.Author.Needs.{needs}
-use Rattle.law.specs.Working.{dayIndex}
-use Rattle.law.proofs.Edges.{day-in, day-out}
+use Rattle.units.specs.Edges.{dayIndex}
 use Rattle.units.specs.Said.{saidNumber}
+use Rattle.units.proofs.Edges.{day-in, day-out}
 use Rattle.book.proofs.write.is_bad.Statement.{statement}
 use Rattle.book.proofs.write.is_bad.Tie as tie
 

@@ -3,7 +3,7 @@ use Prim.Native.Nat.{_/_, _%_}
 use native.Mathlib.Omega.{arith}
 use lib.ListN.{length-set}
 use borrow.Author.Needs.{needs}
-use Rattle.book.proofs.Filling.{put-six}
+use Rattle.book.proofs.write.Filling.{put-six}
 use Rattle.book.proofs.write.put_term.Statement.{statement}
 use Rattle.book.proofs.write.put_term.Tie as tie
 

@@ -13,7 +13,7 @@ use Rattle.law.specs.Document.{badDay, badMinute}
 use Rattle.sun.specs.declared.term.TermRecord.{TermRecord}
 use Rattle.sun.specs.Said.{valuesOf}
 use Rattle.sun.specs.Records.{blank}
-use Rattle.book.proofs.Filling.{term-next, term-not-bad, filled, fill-length, fill-more, fill-end, termBytes}
+use Rattle.book.proofs.write.Filling.{term-next, term-not-bad, filled, fill-length, fill-more, fill-end, termBytes}
 use Rattle.book.proofs.RecordAnswers.{both-no}
 use Rattle.book.proofs.write.put_terms.Statement.{statement}
 use Rattle.book.proofs.write.put_terms.Tie as tie

@@ -6,17 +6,18 @@ use native.Mathlib.Omega.{arith}
 use lib.ListN.{length, take, drop, length-drop, length-map}
 use mir.Facts.{toZ-ofZ}
 use borrow.Author.Needs.{needs, sfits-of}
+use Rattle.reasoning.proofs.Inside.{Inside}
 use Rattle.law.specs.Answer.{value}
-use Rattle.law.specs.Working.{yearIndex}
 use Rattle.law.specs.Book.{BookYear, termsOf, anyBad}
-use Rattle.law.proofs.Edges.{Inside, year-in, year-out}
+use Rattle.units.specs.Edges.{yearIndex}
 use Rattle.units.specs.Said.{saidNumber}
+use Rattle.units.proofs.Edges.{year-in, year-out}
 use Rattle.sun.specs.declared.term.TermRecord.{TermRecord}
 use Rattle.sun.specs.Said.{valuesOf}
 use Rattle.sun.specs.Records.{held}
 use Rattle.book.specs.Said.{givenYear}
 use Rattle.book.proofs.Counts.{counted}
-use Rattle.book.proofs.HeldRecords.{held-all, held-few}
+use Rattle.book.proofs.write.HeldRecords.{held-all, held-few}
 use Rattle.book.proofs.WriteAnswers.{tell-refused, tell-done, name-bad, mansion-bad, terms-decide, write-1, list-6, buffer-6, write-9, write-done, put-year}
 use Rattle.book.proofs.write.write_records.Statement.{statement}
 use Rattle.book.proofs.write.write_records.Tie as tie

@@ -36,9 +36,9 @@ use denote.Triple.Spec.{Meets, tripleOf}
 use denote.Triple.Table.{entered, cited}
 use denote.Triple.Walked.{says, Stays, stay-none, stay-none-slice, gave-slice, walkOf, goes-none, goes-none-slice, goes-gave-slice, Walks, ends-at, walked, walk-meets}
 use denote.Exit.{yes}
+use Rattle.reasoning.proofs.ByHand.{answered, plainly}
 use Rattle.law.specs.Answer.{done as whether, afterwards}
 use Rattle.law.specs.Book.{writeAnswer}
-use Rattle.law.proofs.ByHand.{answered, plainly}
 use Rattle.sun.specs.declared.term.TermRecord.{TermRecord}
 use Rattle.sun.specs.declared.records.Records.{Records}
 use Rattle.sun.specs.Records.{held, firstRecords}
@@ -52,7 +52,7 @@ use Rattle.sun.proofs.first_records.Met as first-met
 use Rattle.book.specs.declared.head.Head.{Head}
 use Rattle.book.specs.declared.write.Written.{Written}
 use Rattle.book.specs.Said.{saidWritten, givenYear}
-use Rattle.book.proofs.HeldRecords.{first-written}
+use Rattle.book.proofs.write.HeldRecords.{first-written}
 use Rattle.book.proofs.head.Head as Hd
 use Rattle.book.proofs.head.Head.Laws as Hd′
 use Rattle.book.proofs.write.Written as Wr

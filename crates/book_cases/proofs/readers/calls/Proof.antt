@@ -49,7 +49,7 @@ use denote.Triple.Spec.{Meets, tripleOf}
 use denote.Triple.Table.{entered, cited}
 use denote.Triple.Walked.{Stays, stay-none-slice, walkOf, goes-none-slice, Walks, ends-at, walked, walk-meets}
 use denote.Exit.{yes}
-use Rattle.law.proofs.ByHand.{answered, Nearer, nearer-ends, after}
+use Rattle.reasoning.proofs.ByHand.{answered, Nearer, nearer-ends, after}
 use Rattle.book.specs.declared.reader.Reader.{Reader}
 use Rattle.book.specs.declared.reader.Handed.{Handed}
 use Rattle.book.proofs.reader.Reader as reader

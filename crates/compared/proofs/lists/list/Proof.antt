@@ -48,9 +48,9 @@ use denote.Triple.Spec.{Meets, tripleOf}
 use denote.Triple.Table.{entered, cited}
 use denote.Triple.Walked.{Stays, stay-none, needs, walkOf, goes-none, Walks, ends-at, walked, walk-meets}
 use denote.Exit.{yes}
+use Rattle.reasoning.proofs.ByHand.{answered}
 use Rattle.law.specs.Answer.{done as whether}
 use Rattle.law.specs.Document.{epicycles, fillAnswer, filled}
-use Rattle.law.proofs.ByHand.{answered}
 use Rattle.sun.specs.declared.term.TermRecord.{TermRecord}
 use Rattle.sun.specs.declared.term.Listed.{Listed}
 use Rattle.sun.specs.Said.{valuesOf}

@@ -2,7 +2,7 @@
 use native.Mathlib.Omega.{arith}
 use mir.Syntax.{w64}
 use borrow.Author.Needs.{needs}
-use Rattle.law.proofs.Whole.{is-minus}
+use Rattle.reasoning.proofs.Whole.{is-minus}
 use Rattle.units.proofs.Machine.{sfits-is, is-wide}
 use Rattle.compared.proofs.print.less.Statement.{statement}
 use Rattle.compared.proofs.print.less.Tie as tie

@@ -4,7 +4,7 @@ use Prim.Native.Nat.{_-_, _≤_}
 use native.Mathlib.Nat.{le-antisymm}
 use native.Mathlib.Omega.{arith}
 use lib.ListN.{length}
-use Rattle.request.proofs.Feeding.{Feeding, none-fed, one-fed, all-fed}
+use Rattle.request.proofs.answers.Feeding.{Feeding, none-fed, one-fed, all-fed}
 use Rattle.request.proofs.answers.feed_block.Statement.{statement}
 use Rattle.request.proofs.answers.feed_block.Tie as tie
 

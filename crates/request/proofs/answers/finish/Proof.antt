@@ -4,7 +4,7 @@ use Prim.Native.Nat.{_≤_}
 use native.Mathlib.Omega.{arith}
 use lib.ListN.{length}
 use lib.Seq.{length-take-le}
-use Rattle.law.proofs.Choice.{lt-yes, lt-no}
+use Rattle.reasoning.proofs.Choice.{lt-yes, lt-no}
 use borrow.Author.Needs.{needs}
 use Rattle.request.proofs.answers.finish.Statement.{statement}
 use Rattle.request.proofs.answers.finish.Tie as tie

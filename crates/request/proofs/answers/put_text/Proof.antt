@@ -5,7 +5,7 @@ use Prim.Native.Nat.{ℕ, _+_, _-_, _≤_}
 use native.Mathlib.Nat.{le-antisymm}
 use native.Mathlib.Omega.{arith}
 use lib.ListN.{length, take, drop, getD, length-map, length-set}
-use Rattle.request.proofs.Copies.{none-copied, one-copied, rest-stays}
+use Rattle.request.proofs.answers.Copies.{none-copied, one-copied, rest-stays}
 use Rattle.request.proofs.answers.put_text.Statement.{statement}
 use Rattle.request.proofs.answers.put_text.Tie as tie
 

@@ -1,6 +1,6 @@
 -- Each test on the way is the definition's own. Assumes nothing.
 use mathlib.Core.Path.{refl}
-use Rattle.law.proofs.Choice.{lt-yes, lt-no}
+use Rattle.reasoning.proofs.Choice.{lt-yes, lt-no}
 use borrow.Author.Needs.{needs}
 use Rattle.request.proofs.line.digit_step.Statement.{statement}
 use Rattle.request.proofs.line.digit_step.Tie as tie

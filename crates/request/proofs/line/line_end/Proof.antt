@@ -3,8 +3,8 @@ use mathlib.Core.Path.{refl, ap, _∙_}
 use mir.Facts.{toZ-ofZ}
 use mir.Syntax.{w64}
 use borrow.Author.Tests.{eq-eqb, ne-eqb}
+use Rattle.reasoning.proofs.Choice.{lt-yes, lt-no}
 use Rattle.law.specs.Answer.{value}
-use Rattle.law.proofs.Choice.{lt-yes, lt-no}
 use Rattle.request.proofs.ReadLine.{outside-by-size}
 use borrow.Author.Needs.{needs}
 use Rattle.request.proofs.line.line_end.Statement.{statement}

@@ -4,7 +4,7 @@ use mathlib.Core.List.{append-nil}
 use native.Mathlib.Omega.{arith}
 use Rattle.law.specs.Request.{digitsOf}
 use Rattle.request.specs.Texts.{held}
-use Rattle.request.proofs.Grows.{followed, last-digit, more-digits}
+use Rattle.request.proofs.text.Grows.{followed, last-digit, more-digits}
 use Prim.Native.Nat.{ℕ, _<_}
 use borrow.Fn.Kinds.{In}
 use borrow.Fn.PlainCycle.{Measures, is, falls, and}

@@ -1,6 +1,6 @@
 -- A byte, and the digits after it. Assumes nothing.
 use native.Mathlib.Omega.{arith}
-use Rattle.request.proofs.Grows.{followed}
+use Rattle.request.proofs.text.Grows.{followed}
 use borrow.Author.Needs.{needs}
 use Rattle.request.proofs.text.push_number.Statement.{statement}
 use Rattle.request.proofs.text.push_number.Tie as tie

@@ -2,7 +2,7 @@
 use mathlib.Core.Path.{ap, _∙_}
 use native.Mathlib.Omega.{arith}
 use Rattle.law.specs.Request.{refusedText}
-use Rattle.request.proofs.Grows.{followed, grown-from}
+use Rattle.request.proofs.text.Grows.{followed, grown-from}
 use borrow.Author.Needs.{needs}
 use Rattle.request.proofs.text.refused_text.Statement.{statement}
 use Rattle.request.proofs.text.refused_text.Tie as tie

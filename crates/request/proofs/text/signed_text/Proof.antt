@@ -8,7 +8,7 @@ use lib.IntN.{ℤ, pos, natAbs}
 use lib.Signed.{ltZ}
 use mir.Facts.{toZ-ofZ}
 use Rattle.law.specs.Request.{minusSign, digits}
-use Rattle.request.proofs.Grows.{grown-from, signed-below, signed-above}
+use Rattle.request.proofs.text.Grows.{grown-from, signed-below, signed-above}
 use borrow.Author.Needs.{needs}
 use Rattle.request.proofs.text.signed_text.Statement.{statement}
 use Rattle.request.proofs.text.signed_text.Tie as tie

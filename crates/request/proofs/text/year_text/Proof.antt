@@ -3,7 +3,7 @@ use mathlib.Core.Path.{ap, _∙_}
 use native.Mathlib.Omega.{arith}
 use mir.Facts.{toZ-ofZ}
 use Rattle.law.specs.Request.{signedDigits, yearText}
-use Rattle.request.proofs.Grows.{followed, grown-from}
+use Rattle.request.proofs.text.Grows.{followed, grown-from}
 use borrow.Author.Needs.{needs}
 use Rattle.request.proofs.text.year_text.Statement.{statement}
 use Rattle.request.proofs.text.year_text.Tie as tie

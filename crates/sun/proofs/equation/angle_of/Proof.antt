@@ -6,8 +6,8 @@ use lib.ListN.{getD}
 use Rattle.law.specs.Answer.{value}
 use Rattle.law.specs.Entry.{lastTangent, tangentEntry}
 use Rattle.law.proofs.Rules.{tangent-range}
-use Rattle.law.proofs.Angles.{Seat, seat, angle-refused, angle-last, angle-inside}
 use Rattle.tables.proofs.Entries.{tangent-read}
+use Rattle.sun.proofs.equation.AngleAnswers.{Seat, seat, angle-refused, angle-last, angle-inside}
 use borrow.Author.Needs.{needs}
 use Rattle.sun.proofs.equation.angle_of.Statement.{statement}
 use Rattle.sun.proofs.equation.angle_of.Tie as tie

@@ -7,11 +7,11 @@ use mir.Facts.{toZ-ofZ, toZ-pos}
 use borrow.Author.Needs.{needs}
 use Rattle.law.specs.Answer.{value, refused}
 use Rattle.law.specs.Document.{epicycles, inCircle}
-use Rattle.law.specs.Working.{sizeAnswer}
-use Rattle.law.proofs.Equations.{equation-added, equation-taken, equation-refused}
+use Rattle.motion.specs.Working.{sizeAnswer}
 use Rattle.units.specs.Said.{numberOf, saidNumber}
 use Rattle.units.proofs.Machine.{Negated, negated}
 use Rattle.sun.specs.Said.{numberUpTo}
+use Rattle.sun.proofs.equation.Equations.{equation-added, equation-taken, equation-refused}
 use Rattle.sun.proofs.equation.equation_at.Statement.{statement}
 use Rattle.sun.proofs.equation.equation_at.Tie as tie
 

@@ -5,8 +5,8 @@ use native.Mathlib.Omega.{arith}
 use borrow.Author.Needs.{needs}
 use Rattle.law.specs.Round.{halfUp}
 use Rattle.law.specs.Document.{epicycles, radius}
-use Rattle.law.specs.Working.{heightOf}
-use Rattle.law.proofs.Sines.{height-le}
+use Rattle.motion.specs.Working.{heightOf}
+use Rattle.motion.proofs.Legs.{height-le}
 use Rattle.sun.proofs.equation.height.Statement.{statement}
 use Rattle.sun.proofs.equation.height.Tie as tie
 

@@ -2,7 +2,7 @@
 use mathlib.Core.Path.{sym}
 use native.Mathlib.Omega.{arith}
 use borrow.Author.Needs.{needs}
-use Rattle.law.proofs.Bridge.{mirrored-low, mirrored-high}
+use Rattle.motion.proofs.Bridge.{mirrored-low, mirrored-high}
 use Rattle.sun.proofs.equation.mirrored.Statement.{statement}
 use Rattle.sun.proofs.equation.mirrored.Tie as tie
 

@@ -2,8 +2,8 @@
 use mathlib.Core.Path.{ap, _∙_}
 use borrow.Author.Needs.{needs}
 use Rattle.law.specs.Document.{epicycles}
-use Rattle.law.specs.Working.{tangentOf}
-use Rattle.law.proofs.Bridge.{size-from}
+use Rattle.motion.specs.Working.{tangentOf}
+use Rattle.motion.proofs.Bridge.{size-from}
 use Rattle.sun.proofs.equation.size_at.Statement.{statement}
 use Rattle.sun.proofs.equation.size_at.Tie as tie
 

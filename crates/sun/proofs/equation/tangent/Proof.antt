@@ -4,8 +4,8 @@ use Prim.Native.Nat.{_-_}
 use native.Mathlib.Omega.{arith}
 use borrow.Author.Needs.{needs}
 use Rattle.law.specs.Document.{epicycles, half, quarter}
-use Rattle.law.specs.Working.{heightOf}
-use Rattle.law.proofs.Bridge.{tangent-near, tangent-far}
+use Rattle.motion.specs.Working.{heightOf}
+use Rattle.motion.proofs.Bridge.{tangent-near, tangent-far}
 use Rattle.motion.proofs.Reach.{base-is}
 use Rattle.sun.proofs.equation.tangent.Statement.{statement}
 use Rattle.sun.proofs.equation.tangent.Tie as tie

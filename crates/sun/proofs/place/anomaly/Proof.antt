@@ -4,8 +4,8 @@ use Prim.Native.Nat.{_≤_}
 use native.Mathlib.Omega.{arith}
 use borrow.Author.Needs.{needs}
 use Rattle.law.specs.Document.{dailyMotion}
-use Rattle.law.specs.Working.{anomalyOf}
-use Rattle.law.proofs.Root.{root-of-le}
+use Rattle.motion.specs.Working.{anomalyOf}
+use Rattle.motion.proofs.Root.{root-of-le}
 use Rattle.sun.proofs.place.anomaly.Statement.{statement}
 use Rattle.sun.proofs.place.anomaly.Tie as tie
 

@@ -4,10 +4,11 @@ use borrow.Author.Needs.{needs}
 use Rattle.law.specs.Answer.{value, refusing}
 use Rattle.law.specs.Document.{epicycles, anomaly, runOnPlace, offTable}
 use lib.IntN.{pos, natAbs, _+ℤ_}
-use Rattle.law.specs.Working.{lift, liftedAnswer}
-use Rattle.law.proofs.Edges.{Inside}
-use Rattle.law.proofs.Places.{lifted-place}
-use Rattle.sun.proofs.Midnights.{midnight-known, midnight-refused}
+use Rattle.reasoning.proofs.Inside.{Inside}
+use Rattle.motion.specs.Working.{lift}
+use Rattle.sun.specs.YearAndDay.{liftedAnswer}
+use Rattle.sun.proofs.place.Places.{lifted-place}
+use Rattle.sun.proofs.place.Midnights.{midnight-known, midnight-refused}
 use Rattle.sun.proofs.place.lifted_at.Statement.{statement}
 use Rattle.sun.proofs.place.lifted_at.Tie as tie
 

@@ -5,11 +5,11 @@ use native.Mathlib.Omega.{arith}
 use borrow.Author.Needs.{needs}
 use Rattle.law.specs.Answer.{value}
 use Rattle.law.specs.Document.{epicycles, dailyMotion}
-use Rattle.law.specs.Working.{sizeAnswer, headroom}
-use Rattle.law.proofs.Root.{root-of-le}
-use Rattle.law.proofs.Places.{place-added, place-taken, place-refused}
+use Rattle.motion.specs.Working.{sizeAnswer, headroom}
+use Rattle.motion.proofs.Root.{root-of-le}
 use Rattle.units.specs.Said.{numberOf, saidNumber}
 use Rattle.sun.specs.Said.{numberUpTo}
+use Rattle.sun.proofs.place.Places.{place-added, place-taken, place-refused}
 use Rattle.sun.proofs.place.lifted_place.Statement.{statement}
 use Rattle.sun.proofs.place.lifted_place.Tie as tie
 

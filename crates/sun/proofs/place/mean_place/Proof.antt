@@ -2,11 +2,11 @@
 use mathlib.Core.Path.{ap, _∙_}
 use Prim.Native.Nat.{_+_, _*_, _-_, _%_}
 use borrow.Author.Needs.{needs}
+use Rattle.reasoning.proofs.Inside.{Inside}
 use Rattle.law.specs.Answer.{value}
 use Rattle.law.specs.Document.{circle, dailyMotion, inCircle, meanPlace, meanAnswer}
-use Rattle.law.proofs.Edges.{Inside}
-use Rattle.law.proofs.Places.{mean-value}
-use Rattle.sun.proofs.Midnights.{midnight-known, midnight-refused}
+use Rattle.sun.proofs.place.Places.{mean-value}
+use Rattle.sun.proofs.place.Midnights.{midnight-known, midnight-refused}
 use Rattle.sun.proofs.place.mean_place.Statement.{statement}
 use Rattle.sun.proofs.place.mean_place.Tie as tie
 

@@ -2,10 +2,10 @@
 use mathlib.Core.Path.{_≡_}
 use borrow.Author.Needs.{needs}
 use Rattle.law.specs.Answer.{value}
-use Rattle.law.specs.Working.{yearIndex, dayIndex}
-use Rattle.law.proofs.Edges.{midnight-bad-year, midnight-bad-day, midnight-is}
+use Rattle.units.specs.Edges.{yearIndex, dayIndex}
 use Rattle.units.specs.Said.{saidNumber}
 use Rattle.units.proofs.Callers.{told}
+use Rattle.sun.proofs.place.YearAndDay.{midnight-bad-year, midnight-bad-day, midnight-is}
 use Rattle.sun.proofs.place.midnight_at.Statement.{statement}
 use Rattle.sun.proofs.place.midnight_at.Tie as tie
 

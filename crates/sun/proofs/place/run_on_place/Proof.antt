@@ -6,12 +6,12 @@ use mir.Syntax.{w64}
 use mir.Val.{toZ}
 use borrow.Author.Needs.{needs}
 use Rattle.law.specs.Document.{epicycles}
+use Rattle.motion.specs.Working.{lift}
 use Rattle.units.specs.Said.{numberOf}
-use Rattle.sun.specs.Said.{numberUpTo}
-use Rattle.sun.proofs.Midnights.{lifted-known}
-use Rattle.law.specs.Working.{lift}
-use Rattle.law.proofs.Places.{run-on-value, run-on-refused}
 use Rattle.units.proofs.Machine.{Lowered, lowered, read}
+use Rattle.sun.specs.Said.{numberUpTo}
+use Rattle.sun.proofs.place.Midnights.{lifted-known}
+use Rattle.sun.proofs.place.Places.{run-on-value, run-on-refused}
 use lib.IntN.{pos, _-ℤ_}
 use Rattle.sun.proofs.place.run_on_place.Statement.{statement}
 use Rattle.sun.proofs.place.run_on_place.Tie as tie

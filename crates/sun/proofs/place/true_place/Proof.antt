@@ -5,8 +5,8 @@ use borrow.Author.Needs.{needs}
 use Rattle.law.specs.Document.{epicycles}
 use Rattle.units.specs.Said.{numberOf}
 use Rattle.sun.specs.Said.{numberUpTo}
-use Rattle.sun.proofs.Midnights.{lifted-known}
-use Rattle.law.proofs.Places.{true-value, true-refused}
+use Rattle.sun.proofs.place.Midnights.{lifted-known}
+use Rattle.sun.proofs.place.Places.{true-value, true-refused}
 use Rattle.sun.proofs.place.true_place.Statement.{statement}
 use Rattle.sun.proofs.place.true_place.Tie as tie
 

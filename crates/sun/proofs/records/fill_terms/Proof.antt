@@ -40,9 +40,9 @@ use denote.Triple.Spec.{Meets, tripleOf}
 use denote.Triple.Table.{entered, cited}
 use denote.Triple.Walked.{says, Stays, stay-none, gave-slice, walkOf, goes-none, goes-gave-slice, Walks, ends-at, walked, walk-meets}
 use denote.Exit.{yes}
+use Rattle.reasoning.proofs.ByHand.{answered, plainly}
 use Rattle.law.specs.Answer.{done as whether}
 use Rattle.law.specs.Document.{epicycles, fillAnswer}
-use Rattle.law.proofs.ByHand.{answered, plainly}
 use Rattle.sun.specs.declared.term.TermRecord.{TermRecord}
 use Rattle.sun.specs.declared.records.Records.{Records}
 use Rattle.sun.specs.declared.records.ListWork.{ListWork}

@@ -43,7 +43,7 @@ use denote.Triple.Spec.{Meets, tripleOf}
 use denote.Triple.Table.{entered, cited}
 use denote.Triple.Walked.{says, Stays, stay-none, stay-slice, walkOf, goes-none, goes-slice, Walks, ends-at, walked, walk-meets}
 use denote.Exit.{yes}
-use Rattle.law.proofs.ByHand.{answered, plainly, Upto, Nearer, nearer-ends, more-stored, stored-length, after}
+use Rattle.reasoning.proofs.ByHand.{answered, plainly, Upto, Nearer, nearer-ends, more-stored, stored-length, after}
 use Rattle.sun.specs.declared.term.TermRecord.{TermRecord}
 use Rattle.sun.specs.declared.records.Records.{Records}
 use Rattle.sun.specs.Records.{blank, recordAt, stored, fitting}

@@ -3,8 +3,8 @@ use mathlib.Core.Bool.{true}
 use mathlib.Core.Path.{_≡_, refl}
 use native.Mathlib.Omega.{arith}
 use borrow.Author.Needs.{needs}
+use Rattle.reasoning.proofs.Inside.{Inside}
 use Rattle.law.specs.Document.{badYear, epicycles}
-use Rattle.law.proofs.Edges.{Inside}
 use Rattle.units.proofs.Callers.{year-known, year-unknown}
 use Rattle.sun.proofs.Filling.{fill-1, fill-6, fill-value, all-held}
 use Rattle.sun.proofs.records.work_for.Statement.{statement}

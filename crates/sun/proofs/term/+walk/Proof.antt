@@ -8,7 +8,7 @@ use borrow.Fn.Kinds.{In}
 use borrow.Fn.PlainCycle.{Measures, is, falls, and}
 use Rattle.law.specs.Answer.{value}
 use Rattle.law.specs.Document.{epicycles}
-use Rattle.law.specs.Working.{placeOf, placeAnswer}
+use Rattle.motion.specs.Working.{placeOf, placeAnswer}
 use Rattle.motion.proofs.Finds.{place-known, place-given, Here, here, On, on}
 use Rattle.units.specs.Said.{saidNumber}
 use Rattle.sun.proofs.term.walk.Reads as walk

@@ -5,7 +5,7 @@ use native.Mathlib.Omega.{arith}
 use borrow.Author.Needs.{needs}
 use Rattle.law.specs.Answer.{value}
 use Rattle.law.specs.Document.{degree, dailyMotion}
-use Rattle.law.proofs.Root.{root-of-le}
+use Rattle.motion.proofs.Root.{root-of-le}
 use Rattle.motion.proofs.Finds.{Begins, begins}
 use Rattle.sun.proofs.term.find.Statement.{statement}
 use Rattle.sun.proofs.term.find.Tie as tie

@@ -7,9 +7,9 @@ use mir.Syntax.{w64}
 use mir.Val.{toZ}
 use borrow.Author.Needs.{needs}
 use Rattle.law.specs.Answer.{value}
-use Rattle.law.proofs.Answers.{same-value, never}
 use Rattle.law.specs.Document.{epicycles}
-use Rattle.law.specs.Working.{Find, findOf}
+use Rattle.law.proofs.Answers.{same-value, never}
+use Rattle.motion.specs.Working.{Find, findOf}
 use Rattle.motion.proofs.TermAnswers.{term-from}
 use Rattle.units.proofs.Machine.{Lowered, lowered, read}
 use Rattle.sun.specs.Said.{saidFound, findUpTo}

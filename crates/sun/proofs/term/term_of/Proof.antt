@@ -3,9 +3,9 @@ use mathlib.Core.Bool.{true}
 use mathlib.Core.Path.{_≡_, refl, _∙_}
 use native.Mathlib.Omega.{arith}
 use borrow.Author.Needs.{needs}
+use Rattle.reasoning.proofs.Choice.{lt-yes}
+use Rattle.reasoning.proofs.Inside.{Inside}
 use Rattle.law.specs.Document.{badYear, epicycles, termAnswer}
-use Rattle.law.proofs.Choice.{lt-yes}
-use Rattle.law.proofs.Edges.{Inside}
 use Rattle.motion.proofs.TermAnswers.{term-value}
 use Rattle.units.proofs.Callers.{year-known, year-unknown}
 use Rattle.sun.proofs.term.term_of.Statement.{statement}

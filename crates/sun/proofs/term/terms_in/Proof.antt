@@ -7,9 +7,9 @@ use lib.ListN.{length, replicate, length-set}
 use borrow.Author.Needs.{needs}
 use Rattle.law.specs.Answer.{value}
 use Rattle.law.specs.Document.{epicycles}
-use Rattle.law.specs.Working.{termOf}
 use Rattle.law.proofs.Answers.{same-value, never}
 use Rattle.law.proofs.InOrder.{Filled, filled-none, filled-more, filled-all}
+use Rattle.motion.specs.Working.{termOf}
 use Rattle.sun.specs.Said.{valuesOf, saidTerm}
 use Rattle.sun.specs.declared.term.TermRecord.{TermRecord}
 use Rattle.sun.proofs.term.terms_in.Statement.{statement}

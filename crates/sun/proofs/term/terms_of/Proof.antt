@@ -3,9 +3,9 @@ use mathlib.Core.Bool.{true}
 use mathlib.Core.Path.{_≡_, refl, ap, _∙_}
 use native.Mathlib.Omega.{arith}
 use borrow.Author.Needs.{needs}
+use Rattle.reasoning.proofs.Inside.{Inside}
 use Rattle.law.specs.Answer.{value}
 use Rattle.law.specs.Document.{badYear, epicycles, termsAnswer}
-use Rattle.law.proofs.Edges.{Inside}
 use Rattle.motion.proofs.TermAnswers.{terms-value}
 use Rattle.units.proofs.Callers.{year-known, year-unknown}
 use Rattle.sun.specs.Said.{saidListed, termsListed, heldTerms}

@@ -4,8 +4,8 @@ use Prim.Native.Nat.{_+_, _*_, _-_, _/_, _%_}
 use native.Mathlib.Omega.{arith}
 use borrow.Author.Needs.{needs}
 use Rattle.law.specs.Document.{day, dailyMotion}
-use Rattle.law.specs.Working.{rootFrom}
-use Rattle.law.proofs.Root.{root-split, root-le}
+use Rattle.motion.specs.Working.{rootFrom}
+use Rattle.motion.proofs.Root.{root-split, root-le}
 use Rattle.sun.proofs.year.root.Statement.{statement}
 use Rattle.sun.proofs.year.root.Tie as tie
 

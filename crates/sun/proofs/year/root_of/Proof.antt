@@ -1,7 +1,7 @@
 -- The root of a year is that of its solstice. Assumes nothing.
 use mathlib.Core.Path.{ap, _∙_}
 use borrow.Author.Needs.{needs}
-use Rattle.law.specs.Working.{rootFrom, rootOf}
+use Rattle.motion.specs.Working.{rootFrom, rootOf}
 use Rattle.sun.proofs.year.root_of.Statement.{statement}
 use Rattle.sun.proofs.year.root_of.Tie as tie
 

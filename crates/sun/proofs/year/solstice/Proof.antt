@@ -1,7 +1,7 @@
 -- The lifted solstice is the definition's. Assumes nothing.
 use mathlib.Core.Path.{refl}
 use borrow.Author.Needs.{needs}
-use Rattle.law.specs.Working.{solsticeOf}
+use Rattle.motion.specs.Working.{solsticeOf}
 use Rattle.sun.proofs.year.solstice.Statement.{statement}
 use Rattle.sun.proofs.year.solstice.Tie as tie
 

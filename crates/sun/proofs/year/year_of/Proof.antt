@@ -2,10 +2,10 @@
 use mathlib.Core.Bool.{true}
 use mathlib.Core.Path.{_≡_, refl}
 use borrow.Author.Needs.{needs}
+use Rattle.reasoning.proofs.Inside.{Inside}
 use Rattle.law.specs.Document.{badYear, yearAnswer}
-use Rattle.law.specs.Working.{rootOf}
-use Rattle.law.proofs.Edges.{Inside}
-use Rattle.law.proofs.Bridge.{fraction-is, day-name-is, mansion-is, root-is}
+use Rattle.motion.specs.Working.{rootOf}
+use Rattle.motion.proofs.Bridge.{fraction-is, day-name-is, mansion-is, root-is}
 use Rattle.units.proofs.Callers.{year-known, year-unknown}
 use Rattle.sun.proofs.year.year_of.Statement.{statement}
 use Rattle.sun.proofs.year.year_of.Tie as tie

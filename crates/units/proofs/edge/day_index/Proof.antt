@@ -7,7 +7,7 @@ use lib.IntN.{natAbs}
 use mir.Syntax.{w64}
 use Rattle.law.specs.Answer.{value}
 use Rattle.law.specs.Document.{badDay}
-use Rattle.law.specs.Working.{dayIndex}
+use Rattle.units.specs.Edges.{dayIndex}
 use Rattle.units.proofs.Machine.{Inside, inside, below, above}
 use Rattle.units.proofs.edge.day_index.Statement.{statement}
 use Rattle.units.proofs.edge.day_index.Tie as tie

@@ -7,7 +7,7 @@ use lib.IntN.{natAbs}
 use mir.Syntax.{w64}
 use Rattle.law.specs.Answer.{value}
 use Rattle.law.specs.Document.{badYear}
-use Rattle.law.specs.Working.{yearIndex}
+use Rattle.units.specs.Edges.{yearIndex}
 use Rattle.units.proofs.Machine.{Inside, inside, below, above}
 use Rattle.units.proofs.edge.year_index.Statement.{statement}
 use Rattle.units.proofs.edge.year_index.Tie as tie

@@ -5,7 +5,7 @@ use native.Mathlib.Nat.{mod-lt, div-zero}
 use native.Mathlib.Omega.{arith}
 use borrow.Author.Needs.{needs}
 use Rattle.law.specs.Round.{halfUp}
-use Rattle.units.proofs.Rounds.{half-up-down, half-up-more, more-fits}
+use Rattle.units.proofs.round.Rounds.{half-up-down, half-up-more, more-fits}
 use Rattle.units.proofs.round.half_up.Statement.{statement}
 use Rattle.units.proofs.round.half_up.Tie as tie
 

@@ -8,7 +8,7 @@ use mir.Val.{SFits}
 use mir.Facts.{toZ-ofZ, toZ-pos}
 use borrow.Author.Needs.{needs}
 use Rattle.law.specs.Document.{clockOfArc}
-use Rattle.law.proofs.Clock.{clock-east, clock-west}
+use Rattle.units.proofs.Clock.{clock-east, clock-west}
 use Rattle.units.proofs.Machine.{negative, positive, Negated, negated, size-le}
 use Rattle.units.proofs.seconds.ArcSeconds.to_clock.Statement.{statement}
 use Rattle.units.proofs.seconds.ArcSeconds.to_clock.Tie as tie

@@ -3,11 +3,11 @@
 use mathlib.Core.Path.{_≡_, refl}
 use Prim.Native.Nat.{ℕ, _≤_, _<_}
 use lib.IntN.{ℤ, pos, negℤ}
+use Rattle.reasoning.proofs.Choice.{lt-yes, lt-no}
 use Rattle.law.specs.Answer.{value, refused}
 use Rattle.law.specs.Document.{half, inCircle, tangent, angle, equation, offTable, equationAnswer}
-use Rattle.law.specs.Working.{sizeAnswer}
-use Rattle.law.proofs.Choice.{lt-yes, lt-no}
 use Rattle.law.proofs.Answers.{passed, stopped}
+use Rattle.motion.specs.Working.{sizeAnswer}
 
 -- a is the anomaly given, brought into the circle; `size` a size there, or the number of a refusal
 module _ (e a : ℕ) (given : ℤ) (h : a ≡ inCircle given) (size : ℕ) where

@@ -6,8 +6,8 @@ use Prim.Native.Nat.{ℕ, zero, suc, _+_, _-_, _/_, _%_, _≤_, _<_}
 use native.Mathlib.Omega.{arith}
 use lib.IntN.{ℤ, pos, natAbs}
 use lib.Signed.{ltZ}
+use Rattle.reasoning.proofs.Choice.{lt-yes, lt-no}
 use Rattle.law.specs.Request.{minusSign, digitsOf, digits, signedDigits}
-use Rattle.law.proofs.Choice.{lt-yes, lt-no}
 use Rattle.request.specs.declared.text.Text.{Text}
 use Rattle.request.specs.Texts.{held, Grown}
 

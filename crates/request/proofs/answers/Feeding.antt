@@ -9,7 +9,7 @@ use lib.Seq.{drop-cons, length-take-le}
 use Rattle.request.specs.declared.line.Line.{Line}
 use Rattle.request.specs.declared.answers.Stepped.{Stepped}
 use Rattle.request.specs.Stream.{nextLine, byteText, stateAfter, textAfter, Took, Feeds}
-use Rattle.request.proofs.Copies.{later}
+use Rattle.request.proofs.answers.Copies.{later}
 
 pub record Feeding (line : Line) (block out₀ out : List ℕ) (soFar : Line) (at i : ℕ) : Type 0 where
   pub state : stateAfter line block ≡ stateAfter soFar (drop i block)

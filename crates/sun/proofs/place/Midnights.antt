@@ -6,17 +6,18 @@ use lib.IntN.{ℤ}
 use mir.Syntax.{w64}
 use mir.Val.{SFits}
 use mir.Facts.{toZ-ofZ}
+use Rattle.reasoning.proofs.Inside.{Inside}
 use Rattle.law.specs.Answer.{Answer, refused, refusing}
 use Rattle.law.specs.Document.{epicycles, badYear, badDay}
-use Rattle.law.specs.Working.{midnightAnswer, liftedAnswer}
-use Rattle.law.proofs.Edges.{Inside, midnight-in, midnight-out}
 use Rattle.units.specs.declared.answer.Number.{Number}
 use Rattle.units.specs.declared.refusal.Refusal.{Refusal}
 use Rattle.units.specs.Said.{numberOf, saidNumber}
 use Rattle.units.proofs.Machine.{read}
+use Rattle.sun.specs.YearAndDay.{midnightAnswer, liftedAnswer}
 use Rattle.sun.specs.declared.place.Midnight.{Midnight}
 use Rattle.sun.specs.declared.place.Midnight.the-variants.{Is, Refused}
 use Rattle.sun.specs.Said.{saidMidnight}
+use Rattle.sun.proofs.place.YearAndDay.{midnight-in, midnight-out}
 
 module _ {n d : ℤ} (f : SFits w64 n) (g : SFits w64 d) where
   told : {R A : Type 0} (said : R → Answer A) (law : ℤ → ℤ → Answer A) {r s : R} → said r ≡ law (read w64 n) (read w64 d) → r ≡ s → said s ≡ law n d

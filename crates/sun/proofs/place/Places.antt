@@ -3,16 +3,17 @@ use mathlib.Core.Path.{_≡_, refl, ap, _∙_}
 use Prim.Native.Nat.{ℕ, _+_, _*_, _-_, _%_, _≤_, _<_}
 use native.Mathlib.Omega.{arith}
 use lib.IntN.{ℤ, pos, natAbs, _+ℤ_}
+use Rattle.reasoning.proofs.Choice.{lt-yes, lt-no}
+use Rattle.reasoning.proofs.Whole.{Is, is-pos, is-add, is-abs, same}
+use Rattle.reasoning.proofs.Inside.{Inside, inside}
 use Rattle.law.specs.Round.{floorMod}
 use Rattle.law.specs.Answer.{value, refused}
 use Rattle.law.specs.Document.{circle, half, dailyMotion, inCircle, anomaly, tangent, angle, runOnPlace, badYear, badDay, offTable, meanAnswer, trueAnswer, runOnAnswer}
-use Rattle.law.specs.Working.{rootOf, sizeAnswer, added, taken, anomalyOf, headroom, lift, placeOf, placeAnswer, liftedAnswer}
-use Rattle.law.proofs.Choice.{lt-yes, lt-no}
 use Rattle.law.proofs.Answers.{passed, stopped, PassedAll, passed-all, passed-on}
-use Rattle.law.proofs.Whole.{Is, is-pos, is-add, is-abs, same}
 use Rattle.law.proofs.Floor.{mod-is}
-use Rattle.law.proofs.Edges.{Inside, inside}
-use Rattle.law.proofs.Bridge.{anomaly-is, run-on-is, mean-in-circle}
+use Rattle.motion.specs.Working.{rootOf, sizeAnswer, added, taken, anomalyOf, headroom, lift, placeOf, placeAnswer}
+use Rattle.motion.proofs.Bridge.{anomaly-is, run-on-is, mean-in-circle}
+use Rattle.sun.specs.YearAndDay.{liftedAnswer}
 
 -- ---- the lifted place, from the size at the anomaly a; `size` is a size there, or the number of a refusal
 

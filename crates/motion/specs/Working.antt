@@ -3,30 +3,11 @@
 use mathlib.Core.Bool.{cond}
 use Prim.Native.Nat.{ℕ, zero, suc, _+_, _*_, _-_, _/_, _%_}
 use lib.Dec.{leb, ltb}
-use lib.IntN.{ℤ, pos, natAbs, _+ℤ_, _-ℤ_}
+use lib.IntN.{pos, _-ℤ_}
 use Rattle.law.specs.Entry.{lastTangent, tangentEntry}
 use Rattle.law.specs.Round.{halfUp}
 use Rattle.law.specs.Answer.{Answer, value, refusing}
-use Rattle.law.specs.Document.{degree, circle, half, quarter, day, yearLength, dailyMotion, perigeeYearly, perigeeDaily, perigeeEpoch, dayEpoch, radius, sine, cosine, tangent, angle, anomaly, runOnPlace, badYear, badDay, offTable, TermValues}
-
--- ---- years and days, counted from the least allowed on
-
-unfoldable pub yearIndex : ℤ → Answer ℕ
-yearIndex N = refusing (badYear N) 1 (value (natAbs (N +ℤ pos 2_000)))
-
-unfoldable pub dayIndex : ℤ → Answer ℕ
-dayIndex d = refusing (badDay d) 2 (value (natAbs (d +ℤ pos 4)))
-
-pub record Midnights : Type 0 where
-  pub year : ℕ
-  pub night : ℕ
-
-abbrev pub midnightsOf : ℤ → ℤ → Midnights
-midnightsOf N d = record { year = natAbs (N +ℤ pos 2_000); night = natAbs (d +ℤ pos 4) }
-
--- both, the refusals in their order
-unfoldable pub midnightAnswer : ℤ → ℤ → Answer Midnights
-midnightAnswer N d = refusing (badYear N) 1 (refusing (badDay d) 2 (value (midnightsOf N d)))
+use Rattle.law.specs.Document.{degree, circle, half, quarter, day, yearLength, dailyMotion, perigeeYearly, perigeeDaily, perigeeEpoch, dayEpoch, radius, sine, cosine, tangent, angle, offTable, TermValues}
 
 -- ---- the year
 
@@ -98,12 +79,6 @@ placeOf e y j = rootOf y + headroom + j * dailyMotion + added e (anomalyOf y j) 
 
 unfoldable pub placeAnswer : ℕ → ℕ → ℕ → Answer ℕ
 placeAnswer e y j = refusing (offTable e (anomalyOf y j)) 5 (value (placeOf e y j))
-
--- the same of the day d of the year N, with the refusals in their order
-unfoldable pub liftedAnswer : ℕ → ℤ → ℤ → Answer ℕ
-liftedAnswer e N d =
-    refusing (badYear N) 1
-    (refusing (badDay d) 2 (refusing (offTable e (anomaly N d)) 5 (value (natAbs (runOnPlace e N d +ℤ pos lift)))))
 
 -- ---- terms: a mark is counted as it is, and lifted where it is held against a place
 

@@ -5,8 +5,8 @@ use Prim.Native.Nat.{ℕ, _+_, _<_}
 use native.Mathlib.Omega.{arith}
 use lib.ListN.{length, getD, set, take, drop, replicate, length-map, List·getD-map}
 use lib.Seq.{take-all}
+use Rattle.reasoning.proofs.ByHand.{more-stored}
 use Rattle.law.specs.Document.{TermValues}
-use Rattle.law.proofs.ByHand.{more-stored}
 
 abbrev pub Column : {A : Type 0} → (TermValues → A) → A → List TermValues → List A → ℕ → Type 0
 Column f zero terms column k = column ≡ take k (map f terms) ++ drop k (replicate 24 zero)

@@ -8,15 +8,16 @@ use native.Mathlib.Omega.{arith}
 use lib.Dec.{T, nltb→le}
 use lib.IntN.{ℤ, pos, negsuc, negℤ, natAbs, _+ℤ_, _-ℤ_}
 use lib.Signed.{_≤ℤ_}
+use Rattle.reasoning.proofs.Choice.{lt-yes, lt-no}
+use Rattle.reasoning.proofs.Whole.{Is, up, down, is-own, is-pos, is-neg, is-add, is-minus, is-times, same, le-is}
+use Rattle.reasoning.proofs.Inside.{Inside, inside}
 use Rattle.law.specs.Answer.{value, refused, refusing}
 use Rattle.law.specs.Document.{clockOfArc, localMinutes, localDay, localMinute, badDay, badMinute, badLongitude, LocalValues, localAnswer}
-use Rattle.law.specs.Working.{dayIndex}
 use Rattle.law.proofs.Answers.{same-value, never}
-use Rattle.law.proofs.Choice.{lt-yes, lt-no}
-use Rattle.law.proofs.Whole.{Is, up, down, is-own, is-pos, is-neg, is-add, is-minus, is-times, same, le-is}
 use Rattle.law.proofs.Floor.{div-is, mod-is, floor-less}
-use Rattle.law.proofs.Edges.{Inside, inside, day-out}
-use Rattle.law.proofs.Clock.{clock-east, clock-west}
+use Rattle.units.specs.Edges.{dayIndex}
+use Rattle.units.proofs.Edges.{day-out}
+use Rattle.units.proofs.Clock.{clock-east, clock-west}
 
 -- ---- the shift
 

@@ -2,9 +2,9 @@
 use mathlib.Core.Path.{_≡_}
 use Prim.Native.Nat.{ℕ, _+_, _*_, _-_, _/_, _%_, _≤_, _<_}
 use native.Mathlib.Omega.{arith}
 use Rattle.law.specs.Round.{halfUp}
 use Rattle.law.specs.Document.{day, dailyMotion}
-use Rattle.law.specs.Working.{solsticeOf, rootFrom, rootOf}
+use Rattle.motion.specs.Working.{solsticeOf, rootFrom, rootOf}
 
 split : (g : ℕ) → halfUp (g * dailyMotion) day ≡ g * (dailyMotion / day) + halfUp (g * (dailyMotion % day)) day
 unfolding halfUp

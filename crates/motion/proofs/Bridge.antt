@@ -7,14 +7,14 @@ use native.Mathlib.Decide.{decLt}
 use native.Mathlib.Omega.{arith}
 use lib.Dec.{leb}
 use lib.IntN.{ℤ, pos, _+ℤ_, _*ℤ_}
+use Rattle.reasoning.proofs.Choice.{lt-yes, lt-no, le-yes, le-no}
+use Rattle.reasoning.proofs.Whole.{Is, is-pos, is-neg, is-add, is-minus, is-times}
 use Rattle.law.specs.Entry.{lastTangent}
 use Rattle.law.specs.Round.{halfUp}
 use Rattle.law.specs.Document.{circle, half, quarter, minute, day, yearLength, dailyMotion, perigeeYearly, perigeeDaily, perigeeEpoch, dayEpoch, mansionEpoch, radius, solstice, dayName, fraction, mansion, root, meanPlace, perigee, inCircle, anomaly, mirrored, folded, sine, cosine, height, base, longSide, tangent, angle, equation, runOnPlace}
-use Rattle.law.specs.Working.{liftDays, solsticeOf, rootFrom, rootOf, heightOf, baseOf, nearOf, farOf, tangentOf, angleAnswer, sizeAnswer, added, taken, anomalyOf, lift, placeOf}
-use Rattle.law.proofs.Choice.{lt-yes, lt-no, le-yes, le-no}
-use Rattle.law.proofs.Whole.{Is, is-pos, is-neg, is-add, is-minus, is-times}
 use Rattle.law.proofs.Floor.{div-is, mod-is}
 use Rattle.law.proofs.Angles.{angle-le}
+use Rattle.motion.specs.Working.{liftDays, solsticeOf, rootFrom, rootOf, heightOf, baseOf, nearOf, farOf, tangentOf, angleAnswer, sizeAnswer, added, taken, anomalyOf, lift, placeOf}
 
 -- ---- the equation of centre, at the arc u from the perigee
 

@@ -1,0 +1,2 @@
+-- What the proof of `columns_of` uses.
+pub mod FilledColumns

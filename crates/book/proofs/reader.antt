@@ -1,0 +1,2 @@
+-- What the proofs of `part_between` and `next` share.
+pub mod HandedParts

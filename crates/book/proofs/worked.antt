@@ -1,0 +1,2 @@
+-- What the proof of `write_year` uses.
+pub mod WorkedAnswers

@@ -1,0 +1,3 @@
+-- What the proofs of this module's functions share.
+pub mod Filling
+pub mod HeldRecords

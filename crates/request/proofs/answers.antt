@@ -1,0 +1,3 @@
+-- What the proofs of `put_text` and `feed_block` use.
+pub mod Copies
+pub mod Feeding

@@ -1,0 +1,2 @@
+-- What the proof of `half_up` uses.
+pub mod Rounds
