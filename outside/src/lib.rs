@@ -1,10 +1,10 @@
 //! Document 01 a second time, from outside: `reckoning` follows the document's sentences and shares
-//! nothing with the library's sources or tables; `wall` calls the library; `fast` is the reckoning
-//! written for speed, for the benchmark. The types below carry answers and hold no rule.
+//! nothing with the library's sources or tables; `fast` is the reckoning written for speed, for the
+//! benchmark. The types below carry answers and hold no rule; they have the names and fields of the
+//! bindings', but are not those. Only the programs in `bin` call the library.
 
 pub mod fast;
 pub mod reckoning;
-pub mod wall;
 
 /// A refusal by document 01's number; the byte of the record at fault where a book is refused.
 #[derive(Clone, Copy, Debug, PartialEq, Eq)]

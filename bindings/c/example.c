@@ -1,6 +1,6 @@
 /* Prints the 24 terms of the epoch year 1684 with the number of each day's name and the time at the
    capital, what its term book reads as, sound and damaged, and what a year out of range is answered.
-   examples/year.rs does the same in Rust. */
+   ../rust/examples/year.rs prints the same. */
 
 #include <inttypes.h>
 #include <stdio.h>

@@ -1,29 +1,29 @@
 //! Prints the 24 terms of the epoch year 1684 with the number of each day's name and the time at the
 //! capital, what its term book reads as, sound and damaged, and what a year out of range is answered.
-//! example.c does the same in C.
+//! ../../c/example.c prints the same.
 
-use outside::{wall, Refusal};
+use bhromilun::Refusal;
 
 fn main() -> Result<(), Refusal> {
     let n = 0;
-    let solstice = wall::year(n)?;
+    let solstice = bhromilun::year(n)?;
     println!("year {n}: day name {}, mansion {}", solstice.day_name, solstice.mansion);
-    for (k, term) in wall::terms(n)?.iter().enumerate() {
+    for (k, term) in bhromilun::terms(n)?.iter().enumerate() {
         // Day 0 is the day after the mean solstice's.
         let day_name = (solstice.day_name as i64 + 1 + term.day).rem_euclid(60);
         let (hour, minute) = (term.minute / 60, term.minute % 60);
         println!("term {k:2}: day {:3}, name {day_name:2}, {hour:02}:{minute:02}", term.day);
     }
     let mut book = [0; 149];
-    wall::write_year(n, &mut book)?;
-    let (year, rest) = wall::read_year(&book)?;
+    bhromilun::write_year(n, &mut book)?;
+    let (year, rest) = bhromilun::read_year(&book)?;
     let day = year.terms[23].day;
     println!("book: year {}, term 23 on day {day}, {} bytes after it", year.n, rest.len());
     book[7] = 2; // term 0 on day 511
-    if let Err(Refusal { number, byte: Some(byte) }) = wall::read_year(&book) {
+    if let Err(Refusal { number, byte: Some(byte) }) = bhromilun::read_year(&book) {
         println!("damaged book: refused {number} at byte {byte}");
     }
-    if let Err(refusal) = wall::year(2_001) {
+    if let Err(refusal) = bhromilun::year(2_001) {
         println!("year 2001: refused {}", refusal.number);
     }
     Ok(())

@@ -2,9 +2,9 @@
 //! Both get the same inputs and the same buffers, in one run, in turn; the least of five repetitions
 //! counts. Each gives a sum of its answers, and the two sums must be equal.
 
+use bhromilun::plain;
 use outside::reckoning::book::YEAR_BYTES;
-use outside::wall::{self, plain};
-use outside::{fast, Refusal, Term};
+use outside::{fast, Term};
 use std::time::Instant;
 
 const REPETITIONS: usize = 5;
@@ -23,7 +23,7 @@ fn year_of(call: usize) -> i64 {
 fn main() {
     let mut book = vec![0; YEARS * YEAR_BYTES];
     for (place, part) in book.chunks_mut(YEAR_BYTES).enumerate() {
-        wall::write_year(place as i64 - 2_000, part).unwrap();
+        bhromilun::write_year(place as i64 - 2_000, part).unwrap();
     }
     let mut buffer = [0; YEAR_BYTES];
 
@@ -73,7 +73,7 @@ fn main() {
     row(
         "seeking the last year in it",
         20,
-        |_| sum_of_part(wall::seek_year(hidden(&book[..]), hidden(2_000))),
+        |_| sum_of_part(bhromilun::seek_year(hidden(&book[..]), hidden(2_000))),
         |_| sum_of_part(fast::seek_year(hidden(&book[..]), hidden(2_000))),
     );
     // The buffer is lent to the one and then to the other.
@@ -124,7 +124,7 @@ fn sum_of_terms(term: impl Fn(u64) -> Term) -> u64 {
     (0..24).map(|k| sum_of(term(hidden(k)))).fold(0, u64::wrapping_add)
 }
 
-fn sum_of_part(part: Result<&[u8], Refusal>) -> u64 {
+fn sum_of_part<Refusal>(part: Result<&[u8], Refusal>) -> u64 {
     part.map_or(0, |part| part.as_ptr() as u64 + part.len() as u64)
 }
 

@@ -1,0 +1,112 @@
+/* The calls of libbhromilun.a, which `rt staticlib bhromilun` writes (x86-64 Linux, System V).
+
+   Each call answers 0, or the number of its refusal. Below, "stores" says of every pointer on which
+   answers its place is stored; on every other answer that place stays as it was. An array or a buffer
+   is stored whole, as far as the call fills it, or not at all.
+
+   The caller sees to it that
+   - no pointer is null, that of a buffer of length 0 neither, and each is aligned for its type;
+   - an array has 24 places, and a buffer as many bytes as its length says;
+   - no place that a call may store overlaps another that it is given.
+   Numbers may have any value: one that is out of range is refused.
+
+   The library keeps nothing between calls, so that any number of threads may call it at once.
+
+   N is the number of years from 1684, -2,000 to 2,000. Day 0 is the day whose midnight follows the mean
+   winter solstice's day. Minutes are those of the day, 0 to 1,439. Angles are in units, 60,000,000 to
+   one second of arc. A year of a term book takes 149 bytes.
+
+   Refusals, in the order in which a call gives them, save that a book is gone over record by record and
+   each is refused 8, 7, 10, 9:
+    1  an N outside -2,000 to 2,000
+    2  a day outside -4 to 370, or a minute above 1,439
+    3  a term above 23
+    4  a longitude beyond 648,000 seconds of arc either way
+    6  a buffer under 149 bytes
+    7  the book ends inside a record
+    8  a kind of record that is neither 01 nor 02
+    9  a field out of its range, read from a book or given to be written
+   10  a record out of turn, the book ends inside a year, or a single year is read from no bytes
+   12  a year absent from a sound book
+   With 7 to 10 from a book comes the byte where the record at fault starts; where the book ends between
+   records inside a year, that is its length. */
+
+#ifndef BHROMILUN_H
+#define BHROMILUN_H
+
+#include <stddef.h>
+#include <stdint.h>
+
+#ifdef __cplusplus
+extern "C" {
+#endif
+
+/* The mean winter solstice of a year: its day name (0 to 59, from jiazi), the fraction of its day in
+   thousand-millionths, and the duty mansion (0 to 27, from jiao). Refuses 1.
+   Stores: all three on 0. */
+uint64_t bhromilun_year(int64_t n, uint64_t *day_name, uint64_t *fraction, uint64_t *mansion);
+
+/* The equation of centre in units, at any anomaly in units; it is brought into the circle first.
+   Refuses nothing: no anomaly gives a tangent above the table's end, which would be 5.
+   Stores: equation on 0. */
+uint64_t bhromilun_equation(int64_t anomaly, int64_t *equation);
+
+/* The mean sun at the midnight of a day (-4 to 370), in units within the circle. Refuses 1, 2.
+   Stores: place on 0. */
+uint64_t bhromilun_mean_place(int64_t n, int64_t day, uint64_t *place);
+
+/* The true sun at the midnight of a day (-4 to 370), in units within the circle. Refuses 1, 2.
+   Stores: place on 0. */
+uint64_t bhromilun_true_place(int64_t n, int64_t day, uint64_t *place);
+
+/* Day and minute of term k (0 to 23), and the number of midnights visited to find them. Refuses 1, 3.
+   Stores: all three on 0. */
+uint64_t bhromilun_term(int64_t n, uint64_t k, int64_t *day, uint64_t *minute, uint64_t *count);
+
+/* The year call: day, minute and count of each of the 24 terms, term 0 first. It is quicker than 24
+   calls of the one above, which lays out its tables each time. Refuses 1.
+   Stores: all three arrays on 0. */
+uint64_t bhromilun_terms(int64_t n, int64_t days[24], uint64_t minutes[24], uint64_t counts[24]);
+
+/* The day and minute at a place so many seconds of arc east of the capital (west is negative). The day
+   may come out as -5 or 371. Refuses 2, 4.
+   Stores: both on 0. */
+uint64_t bhromilun_local_time(int64_t day, uint64_t minute, int64_t longitude,
+                              int64_t *day_there, uint64_t *minute_there);
+
+/* Works out a year and fills the first 149 bytes of the buffer with its part of a term book.
+   Refuses 1, 6.
+   Stores: the buffer's first 149 bytes on 0, and never a later one. */
+uint64_t bhromilun_write_year(int64_t n, uint8_t *buffer, size_t length);
+
+/* Checks a whole book; an empty one is sound. Refuses 7, 8, 9, 10.
+   Stores: byte on every answer; on 0 it is the book's length, on a refusal the byte at fault. */
+uint64_t bhromilun_check_book(const uint8_t *bytes, size_t length, size_t *byte);
+
+/* Seeks the year's part of a book: its bytes from start up to, and without, end. Refuses 1; then 7, 8,
+   9, 10 for the whole book; then 12.
+   Stores: start and end on 0; byte, the byte at fault, on 7, 8, 9 and 10; none on 1 and 12. */
+uint64_t bhromilun_seek_year(const uint8_t *bytes, size_t length, int64_t n,
+                             size_t *start, size_t *end, size_t *byte);
+
+/* Reads the year at the start of the bytes: N, day name, mansion, day and minute of each of the 24
+   terms, and in end the byte after the year, where a next one would start. What stands from there on is
+   not looked at. Refuses 7, 8, 9, 10; no bytes at all are refused 10 at byte 0.
+   That years rise in a book is the whole book's matter: bhromilun_check_book.
+   Stores: all but byte on 0; byte, the byte at fault, and nothing else on a refusal. */
+uint64_t bhromilun_read_year(const uint8_t *bytes, size_t length,
+                             int64_t *n, uint64_t *day_name, uint64_t *mansion,
+                             int64_t days[24], uint64_t minutes[24], size_t *end, size_t *byte);
+
+/* Fills the first 149 bytes of the buffer with the year of these values, term 0 first. Refuses 1; then
+   6; then 9 for a day name above 59, a mansion above 27, a day outside -4 to 370 or a minute above 1,439.
+   Stores: the buffer's first 149 bytes on 0, and never a later one. */
+uint64_t bhromilun_write_year_from(int64_t n, uint64_t day_name, uint64_t mansion,
+                                   const int64_t days[24], const uint64_t minutes[24],
+                                   uint8_t *buffer, size_t length);
+
+#ifdef __cplusplus
+}
+#endif
+
+#endif

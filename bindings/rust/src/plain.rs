@@ -1,0 +1,168 @@
+//! The calls in their C shape, with references for pointers. Each answers 0 or the refusal's number, and
+//! stores the rest in what it is lent last: where this file does not say otherwise, all of it on 0 and
+//! nothing on a refusal. So a caller can keep its values in arrays of its own, and sees what a refusal
+//! leaves as it was.
+
+// What C's caller must see to, the types do here: a reference is never null, is aligned, and leads to a whole
+// number or array; a slice has its length; and nothing lent by `&mut` overlaps anything else.
+mod library {
+    extern "C" {
+        pub fn bhromilun_year(
+            n: i64,
+            day_name: &mut u64,
+            fraction: &mut u64,
+            mansion: &mut u64,
+        ) -> u64;
+        pub fn bhromilun_equation(anomaly: i64, equation: &mut i64) -> u64;
+        pub fn bhromilun_mean_place(n: i64, day: i64, place: &mut u64) -> u64;
+        pub fn bhromilun_true_place(n: i64, day: i64, place: &mut u64) -> u64;
+        pub fn bhromilun_term(
+            n: i64,
+            k: u64,
+            day: &mut i64,
+            minute: &mut u64,
+            count: &mut u64,
+        ) -> u64;
+        pub fn bhromilun_terms(
+            n: i64,
+            days: &mut [i64; 24],
+            minutes: &mut [u64; 24],
+            counts: &mut [u64; 24],
+        ) -> u64;
+        pub fn bhromilun_local_time(
+            day: i64,
+            minute: u64,
+            longitude: i64,
+            day_there: &mut i64,
+            minute_there: &mut u64,
+        ) -> u64;
+        pub fn bhromilun_write_year(n: i64, buffer: *mut u8, length: usize) -> u64;
+        pub fn bhromilun_check_book(bytes: *const u8, length: usize, byte: &mut usize) -> u64;
+        pub fn bhromilun_seek_year(
+            bytes: *const u8,
+            length: usize,
+            n: i64,
+            start: &mut usize,
+            end: &mut usize,
+            byte: &mut usize,
+        ) -> u64;
+        pub fn bhromilun_read_year(
+            bytes: *const u8,
+            length: usize,
+            n: &mut i64,
+            day_name: &mut u64,
+            mansion: &mut u64,
+            days: &mut [i64; 24],
+            minutes: &mut [u64; 24],
+            end: &mut usize,
+            byte: &mut usize,
+        ) -> u64;
+        pub fn bhromilun_write_year_from(
+            n: i64,
+            day_name: u64,
+            mansion: u64,
+            days: &[i64; 24],
+            minutes: &[u64; 24],
+            buffer: *mut u8,
+            length: usize,
+        ) -> u64;
+    }
+}
+
+/// See [`year`](crate::year).
+pub fn year(n: i64, day_name: &mut u64, fraction: &mut u64, mansion: &mut u64) -> u64 {
+    unsafe { library::bhromilun_year(n, day_name, fraction, mansion) }
+}
+
+/// See [`equation`](crate::equation).
+pub fn equation(anomaly: i64, equation: &mut i64) -> u64 {
+    unsafe { library::bhromilun_equation(anomaly, equation) }
+}
+
+/// See [`mean_place`](crate::mean_place).
+pub fn mean_place(n: i64, day: i64, place: &mut u64) -> u64 {
+    unsafe { library::bhromilun_mean_place(n, day, place) }
+}
+
+/// See [`true_place`](crate::true_place).
+pub fn true_place(n: i64, day: i64, place: &mut u64) -> u64 {
+    unsafe { library::bhromilun_true_place(n, day, place) }
+}
+
+/// See [`term`](crate::term).
+pub fn term(n: i64, k: u64, day: &mut i64, minute: &mut u64, count: &mut u64) -> u64 {
+    unsafe { library::bhromilun_term(n, k, day, minute, count) }
+}
+
+/// See [`terms`](crate::terms).
+pub fn terms(n: i64, days: &mut [i64; 24], minutes: &mut [u64; 24], counts: &mut [u64; 24]) -> u64 {
+    unsafe { library::bhromilun_terms(n, days, minutes, counts) }
+}
+
+/// See [`local_time`](crate::local_time).
+pub fn local_time(
+    day: i64,
+    minute: u64,
+    longitude: i64,
+    day_there: &mut i64,
+    minute_there: &mut u64,
+) -> u64 {
+    unsafe { library::bhromilun_local_time(day, minute, longitude, day_there, minute_there) }
+}
+
+/// See [`write_year`](crate::write_year). On 0 the first 149 bytes are stored; later ones never.
+pub fn write_year(n: i64, buffer: &mut [u8]) -> u64 {
+    unsafe { library::bhromilun_write_year(n, buffer.as_mut_ptr(), buffer.len()) }
+}
+
+/// See [`check_book`](crate::check_book). `byte` is stored on every answer: on 0 it is the book's length,
+/// on a refusal the byte at fault.
+pub fn check_book(bytes: &[u8], byte: &mut usize) -> u64 {
+    unsafe { library::bhromilun_check_book(bytes.as_ptr(), bytes.len(), byte) }
+}
+
+/// See [`seek_year`](crate::seek_year). `start` and `end` are stored on 0, `byte` on 7, 8, 9 and 10, and
+/// none on 1 and 12.
+pub fn seek_year(
+    bytes: &[u8],
+    n: i64,
+    start: &mut usize,
+    end: &mut usize,
+    byte: &mut usize,
+) -> u64 {
+    unsafe { library::bhromilun_seek_year(bytes.as_ptr(), bytes.len(), n, start, end, byte) }
+}
+
+/// See [`read_year`](crate::read_year). On 0 all but `byte` is stored, `end` being the byte after the
+/// year; on a refusal `byte` alone.
+#[allow(clippy::too_many_arguments)]
+pub fn read_year(
+    bytes: &[u8],
+    n: &mut i64,
+    day_name: &mut u64,
+    mansion: &mut u64,
+    days: &mut [i64; 24],
+    minutes: &mut [u64; 24],
+    end: &mut usize,
+    byte: &mut usize,
+) -> u64 {
+    let (start, length) = (bytes.as_ptr(), bytes.len());
+    unsafe {
+        library::bhromilun_read_year(start, length, n, day_name, mansion, days, minutes, end, byte)
+    }
+}
+
+/// See [`write_year_from`](crate::write_year_from). On 0 the first 149 bytes are stored; later ones never.
+pub fn write_year_from(
+    n: i64,
+    day_name: u64,
+    mansion: u64,
+    days: &[i64; 24],
+    minutes: &[u64; 24],
+    buffer: &mut [u8],
+) -> u64 {
+    let (start, length) = (buffer.as_mut_ptr(), buffer.len());
+    unsafe {
+        library::bhromilun_write_year_from(n, day_name, mansion, days, minutes, start, length)
+    }
+}
