@@ -1,40 +1,56 @@
-// Draws the wall of the year that the first line of standard input asks: its 24 terms as a ring, in SVG. Each stands at its mark, the
-// winter solstice at the top; its name outside, its day and time inside. Nothing but a picture goes to standard output: a refusal
-// and a failed read or write are told on standard error, since there is no exit status to give.
-mod drawing;
-mod input;
+// Draws the wall of the year that the first line of standard input asks, in SVG: its 24 terms round a ring, the winter solstice at
+// the top, and inside the sun at each midnight and the year. Nothing but a picture goes to standard output: a refusal and a failed
+// read or write are told on standard error, since there is no exit status to give.
+mod circle;
+mod middle;
+mod midnights;
 mod names;
 mod page;
+mod picture;
+mod template;
+mod terms;
 
+use console::Reading;
+use console::tell;
 use libc::STDERR_FILENO;
 use libc::STDOUT_FILENO;
-use request::First;
+use page::FULL;
+use page::Page;
 use sun::Listed;
-use sun::Year;
-use sun::YearAnswer;
 use units::Refusal;
 use units::Signed;
 
-fn tell(words: &[u8]) {
-    io::write_all(STDERR_FILENO, words);
-}
-
 fn refuse(refusal: Refusal) {
-    tell(b"refused ");
-    io::print_decimal(STDERR_FILENO, units::refusal_number(refusal));
-    tell(b"\n");
+    console::refusal_line(STDERR_FILENO, refusal);
 }
 
-fn draw(n: i64, year: Year) {
-    let found = sun::terms_of(n);
-    let answer = found.answer;
+fn first_bytes(page: &[u8], size: usize) -> &[u8] {
+    let start = 0;
+    if size < page.len() {
+        return &page[start..size];
+    }
+    page
+}
+
+// Nothing is written of a full page.
+fn write(page: &Page, size: usize) {
+    if FULL <= size {
+        tell(b"the picture could not be drawn\n");
+    } else if !io::write_all(STDOUT_FILENO, first_bytes(page, size)) {
+        tell(b"the picture could not be written\n");
+    }
+}
+
+fn draw(n: i64) {
+    let worked = sun::work_year(n);
+    let answer = worked.answer;
     match answer {
         Listed::All => {
-            let mut page = [0u8; drawing::LONGEST];
-            let size = drawing::picture(&mut page, n, year, found);
-            if !io::write_all(STDOUT_FILENO, &page[..size]) {
-                tell(b"the picture could not be written\n");
-            }
+            let mut page = [0u8; FULL];
+            let year = worked.year;
+            let terms = worked.records.at;
+            let size = picture::picture(&mut page, n, year, terms);
+            write(&page, size);
         }
         Listed::Refused(refusal) => refuse(refusal),
     }
@@ -42,17 +58,15 @@ fn draw(n: i64, year: Year) {
 
 fn answer(asked: Signed) {
     match asked {
-        Signed::Is(n) => match sun::year_of(n) {
-            YearAnswer::Is(year) => draw(n, year),
-            YearAnswer::Refused(refusal) => refuse(refusal),
-        },
+        Signed::Is(n) => draw(n),
         Signed::Refused(refusal) => refuse(refusal),
     }
 }
 
 fn main() {
-    match input::first_line() {
-        First::Asked(asked) => answer(asked),
-        First::Open(_) => tell(b"the line could not be read\n"),
-    }
+    let Reading::Asked(asked) = console::first_line() else {
+        tell(b"the line could not be read\n");
+        return;
+    };
+    answer(asked);
 }
