@@ -439,7 +439,7 @@ def document_input():
     return b"".join(line + b"\n" for line in DOCUMENT_LINES)
 
 
-def cases_input():
+def many_lines():
     """No line, no year, the limits, a line longer than any buffer, and lines across every place of a read."""
     odd = [b"", b"", b"", b"\0", b"1\0", b"\r", b"1\r", b"+1", b" 1", b"1 ", b"--1", b"-", b"-0", b"0000", b"-0000", b"00001"]
     odd += [b"12345", b"2000", b"-2000", b"2001", b"-2001", b"9999", b"-9999", b"1-", b"0x1", b"/", b":", b"\xff", b"1\t", b"1e3"]
@@ -457,32 +457,33 @@ def answers_to(given):
 
 # Each program's expected output, and the parts that it prints in order.
 EXPECTED_FILES = [
-    ("crates/compared/stdout", [tables_lines, year_lines, equation_lines, place_lines, term_lines, list_lines, local_lines]),
+    ("crates/reckoning_cases/stdout", [tables_lines, year_lines, equation_lines, place_lines, term_lines, list_lines, local_lines]),
 ]
 
-# Further inputs of the solstice program, by their names.
-SOLSTICE_CASES = [("many_lines", cases_input()), ("newline", b"\n"), ("nothing", b"")]
 
-
-def run_files(program, given, cases, answers):
-    """The files of a program that reads: the input and output that its crate is run on, and those of its further cases."""
-    yield f"crates/{program}/stdin", given
-    yield f"crates/{program}/stdout", answers(given)
-    for name, further in cases:
-        yield f"tests/cases/{program}/{name}.in", further
-        yield f"tests/cases/{program}/{name}.out", answers(further)
+def run_files(program, given, answers):
+    """The input and output that the crate of a program that reads is run on."""
+    return [(f"crates/{program}/stdin", given), (f"crates/{program}/stdout", answers(given))]
 
 
 def expected_files():
     """Every expected file's path and bytes."""
-    import term_book  # here, since they take their values from this file
+    import case_files  # here, since they take their values from this file
+    import term_book
     import wall_ring
 
     for path, parts in EXPECTED_FILES:
         yield path, "".join(line + "\n" for part in parts for line in part()).encode()
-    yield from run_files("solstice", document_input(), SOLSTICE_CASES, answers_to)
+    yield from run_files("solstice", document_input(), answers_to)
     yield from term_book.expected_files()
     yield from wall_ring.expected_files()
+    yield from case_files.expected_files()
+
+
+def stray_cases(expected):
+    """Files of tests/cases that nothing here makes."""
+    found = (str(file.relative_to(ROOT_FOLDER)) for file in ROOT_FOLDER.glob("tests/cases/*/*"))
+    return sorted(set(found) - {path for path, _ in expected})
 
 
 def main(arguments):
@@ -491,8 +492,9 @@ def main(arguments):
     assert_table_rules()
     assert_marked_table()
     assert_compared_figures()
-    differing = []
-    for path, expected in expected_files():
+    files = list(expected_files())
+    differing = stray_cases(files) if arguments else []
+    for path, expected in files:
         file = ROOT_FOLDER / path
         if not arguments:
             file.parent.mkdir(parents=True, exist_ok=True)

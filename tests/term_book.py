@@ -242,13 +242,10 @@ def book_asked(given):
         return f"refused {refusal.args[0]}\n".encode()
 
 
-TERMBOOK_CASES = [("refused", b"2001"), ("nothing", b"")]
-
-
 def expected_files():
     lines = [*written_lines(), *case_lines()]
     return [
         ("crates/book_cases/stdin", case_input()),
         ("crates/book_cases/stdout", "".join(line + "\n" for line in lines).encode()),
-        *run_files("termbook", b"-676\nnot read\n", TERMBOOK_CASES, book_asked),
+        *run_files("termbook", b"-676\nnot read\n", book_asked),
     ]

@@ -273,7 +273,7 @@ def parts(book):
 # A request line.
 
 
-REFUSED_TEXTS = {b"refused 1\n": "refused-1", b"refused 11\n": "refused-11"}
+REFUSED_TEXTS = {b"refused 11\n": "refused-11"}
 
 
 def text_of(written):
@@ -312,7 +312,7 @@ def clock(name, part, fraction):
 
 
 def terms():
-    for name, n, k in (("first", 0, 0), ("least", -2000, 0), ("most", 2000, 23), ("backward", -676, 5), ("eight", -1900, 16)):
+    for name, n, k in (("first", 0, 0), ("least", -2000, 0), ("most", 2000, 23), ("backward", -676, 5), ("longest", -1900, 16)):
         day, minute, count = expected.term_values(n, k)
         start = (15 * k * DEGREE - expected.root(n)) // expected.DAILY_MOTION - 3
         yield name, f"Worked {given(n)} {k} {given(start)} {count} {given(day)} {minute:_}"
@@ -336,7 +336,7 @@ def orders():
     yield "term-1-5", term(2001, 6, WIDE)
     yield "term-3-5", term(0, 24, WIDE)
     yield "term-5", term(0, 6, WIDE)
-    yield "term-5-at-the-eighth", term(-1900, 16, "189_400")
+    yield "term-5-at-the-last-midnight", term(-1900, 16, "189_400")
     yield "fill-1-5", fill_refused(2001, 24, WIDE)
     yield "fill-6-5", fill_refused(0, 23, WIDE)
     yield "fill-5", fill_refused(0, 24, WIDE)

@@ -1,14 +1,14 @@
 // Of each damaged book: what checking it, seeking the year 0 in it, reading its first year and a reader's calls answer.
 use crate::bytes::byte_at;
 use crate::bytes::two_at;
-use crate::print::number;
-use crate::print::refused;
-use crate::print::refused_at;
-use crate::print::text;
 use crate::readers;
+use crate::refusals::refused_at;
 use crate::values;
 use book::BookAnswer;
 use book::Sought;
+use console::number;
+use console::refused;
+use console::text;
 ghost use Prim.Native.Nat.{_≤_};
 
 // The years -676, 0 and 321, and zeros after them.

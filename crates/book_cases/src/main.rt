@@ -3,8 +3,8 @@
 // and byte. tests/expected.py makes stdin and stdout.
 mod bytes;
 mod damaged;
-mod print;
 mod readers;
+mod refusals;
 mod values;
 mod written;
 

@@ -1,9 +1,9 @@
 // A reader opened on a book, and what it hands out at each of five calls: three years and the end, and then what stays.
 use crate::bytes::two_at;
-use crate::print::number;
-use crate::print::refused_at;
-use crate::print::text;
+use crate::refusals::refused_at;
 use book::Next;
+use console::number;
+use console::text;
 
 // A year's number and the length of its part; else the part must be empty.
 fn handed_out(part: &[u8], what: Next) {

@@ -1,9 +1,10 @@
 // The year at the start of a book, by value.
-use crate::print::number;
-use crate::print::refused_at;
-use crate::print::signed;
-use crate::print::text;
-use book::BookAnswer;
+use crate::refusals::refused_at;
+use book::ReadAnswer;
+use console::number;
+use console::refused;
+use console::signed;
+use console::text;
 use sun::TermRecord;
 
 fn moment(term: TermRecord) {
@@ -17,11 +18,13 @@ fn moment(term: TermRecord) {
 
 // The answer, the head, and the first term, one in between and the last.
 pub(crate) fn read(bytes: &[u8]) {
-    let year = book::read_values(bytes);
+    let read = book::read_values(bytes);
+    let year = read.year;
     let answer = year.answer;
     match answer {
-        BookAnswer::Sound(_) => text(b"read"),
-        BookAnswer::Refused(refusal, byte) => refused_at(refusal, byte),
+        ReadAnswer::Sound(_) => text(b"read"),
+        ReadAnswer::Unsound(refusal, byte) => refused_at(refusal, byte),
+        ReadAnswer::Refused(refusal) => refused(refusal),
     }
     let head = year.head;
     text(b" ");
@@ -30,7 +33,8 @@ pub(crate) fn read(bytes: &[u8]) {
     number(head.day_name);
     text(b" ");
     number(head.mansion);
-    moment(year.at[0]);
-    moment(year.at[11]);
-    moment(year.at[23]);
+    let records = read.records;
+    moment(records.at[0]);
+    moment(records.at[11]);
+    moment(records.at[23]);
 }

@@ -1,12 +1,25 @@
 // Years worked out and written, years written from values, and their refusals, with the whole buffer afterwards.
-use crate::print::hex;
-use crate::print::number;
-use crate::print::refused;
-use crate::print::signed;
-use crate::print::text;
 use book::Head;
 use book::Written;
+use console::number;
+use console::refused;
+use console::signed;
+use console::text;
+use libc::STDOUT_FILENO;
 use sun::TermRecord;
+
+fn wide(byte: u8) -> u64 {
+    byte as u64
+}
+
+// Each byte in two digits of base 16.
+fn hex(bytes: &[u8]) {
+    let mut i = 0;
+    while i < bytes.len() {
+        io::print_hex(STDOUT_FILENO, wide(bytes[i]), 2);
+        i += 1;
+    }
+}
 
 // What a writer answered, and the buffer that it was lent a part of.
 fn answer(written: Written, buffer: &[u8]) {

@@ -1,7 +1,6 @@
 // Answers each line of standard input, in order: a year's mean solstice and mansion, or a refusal. It
 // keeps the line so far as a small state, so memory does not grow; a write is made for a block read, not for a line.
 // There is no exit status to give: a failed read or write is told on standard error, and ends the program.
-use libc::STDERR_FILENO;
 use libc::STDIN_FILENO;
 use libc::STDOUT_FILENO;
 use request::Line;
@@ -17,7 +16,7 @@ fn put(answers: &[u8]) -> bool {
     if io::write_all(STDOUT_FILENO, answers) {
         return true;
     }
-    io::write_all(STDERR_FILENO, b"the answers could not be written\n");
+    console::tell(b"the answers could not be written\n");
     false
 }
 
@@ -31,7 +30,7 @@ fn last(line: Line, out: &mut [u8]) {
 fn turn(line: Line, block: &mut [u8], out: &mut [u8]) -> Turned {
     let got = libc::read(STDIN_FILENO, block);
     if got < 0 {
-        io::write_all(STDERR_FILENO, b"the input could not be read\n");
+        console::tell(b"the input could not be read\n");
         return Turned { line, more: false };
     }
     let n = io::count(got, block);

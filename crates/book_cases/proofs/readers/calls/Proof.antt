@@ -120,8 +120,8 @@ module _ {M : Type 1} (𝓤 : URA M) (H : Heap 𝓤) (A : Atoms 𝓤) (W : Given
   abbrev α : NamedLft
   α = record { mir = named 1; lft = κ }
 
-  abbrev inside : NamedLft
-  inside = record { mir = erased; lft = κ }
+  abbrev indexed : NamedLft
+  indexed = record { mir = erased; lft = κ }
 
   abbrev Lent : RattleType
   Lent = ShrSlice (named 0) κ u8
@@ -299,7 +299,7 @@ module _ {M : Type 1} (𝓤 : URA M) (H : Heap 𝓤) (A : Atoms 𝓤) (W : Given
         peeks ! (handed.the-row α) (Is (handed.the-row α)) (shows 𝓤 H A (handed.the-row α)) g (u ∷ []) (λ is.
         let told : u ∷ [] ≡ LL.vals Out-type Out-laws g = LL.tells Out-type Out-laws g (u ∷ []) is in
         let fields = LL.owed Out-type Out-laws g _ (subst (Is (handed.the-row α) g) told is) in
-        land ! (from ! (stop !)) (init ! 9 refl (LL.lawful (handed.the-type inside) (handed-laws.the-laws inside) 𝓤 H A W .typed g _ is .0)) $
+        land ! (from ! (stop !)) (init ! 9 refl (LL.lawful (handed.the-type indexed) (handed-laws.the-laws indexed) 𝓤 H A W .typed g _ is .0)) $
         rewrite ! 9 (λ (v : Val). ‵ (fat fullShare handed-in l₄ 0 v)) (ap only told) refl $
         rewrite ! 0 (λ (vs : List Val). ‵ (handed.the-row α .own g vs)) told refl $
         -- the call's lifetime is ended, and the reader comes back
@@ -338,9 +338,9 @@ module _ {M : Type 1} (𝓤 : URA M) (H : Heap 𝓤) (A : Atoms 𝓤) (W : Given
       calls-at ! (fmOf 𝓤 H (W .laws) 𝓣) (Open 𝓤 H A mem run) known-open to-open (and-then ! (load ! (from ! (stop !)) (look ! 21 refl)) (no-more !)) (λ v.
       answered ! tt opened.signature (opened.spec 𝓤 H A mem run) to-open v (λ _. Unit {0}) (‵ (flft κ q)) (λ _. factI 𝓤 (Unit {0}) _ tt) (fst∗ 𝓤 _ (emp 𝓤)) (λ h _ is.
       let told : v ∷ [] ≡ reader-laws.lowered h ∷ [] = LL.tells D L h (v ∷ []) is in
-      let typed = LL.lawful (reader.the-type inside) (reader-laws.the-laws inside) 𝓤 H A W .typed h _ (subst (Is R h) told is) .0 in
+      let typed = LL.lawful (reader.the-type indexed) (reader-laws.the-laws indexed) 𝓤 H A W .typed h _ (subst (Is R h) told is) .0 in
       -- [what the reader owns; the token; the book; true; _10; …; _0; …]
-      land ! (from ! (stop !)) (init ! 14 refl (LL.lawful (reader.the-type inside) (reader-laws.the-laws inside) 𝓤 H A W .typed h _ is .0)) $
+      land ! (from ! (stop !)) (init ! 14 refl (LL.lawful (reader.the-type indexed) (reader-laws.the-laws indexed) 𝓤 H A W .typed h _ is .0)) $
       rewrite ! 14 (λ (u : Val). ‵ (fat fullShare reader-in l₅ 0 u)) (ap only told) refl $ rewrite ! 0 (λ (vs : List Val). ‵ (R .own h vs)) told refl $
       assigns ! (of-opd ! (load ! (from ! (stop !)) (look ! 14 refl))) (from ! (stop !)) (init ! 20 refl typed) $
       assigns ! (of-opd ! (lit ! tt)) (from ! (stop !)) (init ! 18 refl (tt, record { fits = lit< tt })) $ forget ! 14 refl $
