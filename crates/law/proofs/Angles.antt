@@ -4,7 +4,7 @@ use Prim.Native.Nat.{ℕ, zero, suc, _+_, _*_, _-_, _/_, _≤_, _<_}
 use native.Mathlib.Decide.{decLe, decLt}
 use native.Mathlib.Nat.{div-lt-iff-lt-mul, div-zero}
 use native.Mathlib.Omega.{arith}
-use Rattle.reasoning.proofs.Choice.{le-yes, le-no}
+use borrow.Author.Tests.{le-leb, lt-leb}
 use Rattle.law.specs.Entry.{lastTangent, tangentEntry}
 use Rattle.law.specs.Document.{minute, lastMinute, anglePast, angle}
 use Rattle.law.proofs.Rules.{tangent-first, tangent-run, tangent-past}
@@ -23,10 +23,10 @@ last-minute t (suc n) = go (decLe (tangentEntry (suc n)) t) (last-minute t n)
   where
     go : Dec (tangentEntry (suc n) ≤ t) → Last t n (lastMinute t n) → Last t (suc n) (lastMinute t (suc n))
     go (yes l) r =
-        rw (le-yes l) (record { most = omega arith; reached = l; past = λ (k : ℕ) (g : suc n < k) (h : k ≤ suc n). absurd (omega arith) })
+        rw (le-leb _ _ l) (record { most = omega arith; reached = l; past = λ (k : ℕ) (g : suc n < k) (h : k ≤ suc n). absurd (omega arith) })
     go (no l) r =
         let w : t < tangentEntry (suc n) = omega arith in
-        rw (le-no w)
+        rw (lt-leb _ _ w)
         (record { most = omega (arith, r .most); reached = r .reached; past = λ (k : ℕ) (g : lastMinute t n < k) (h : k ≤ suc n). above k g h (decLe k n) })
       where
         above : (k : ℕ) → lastMinute t n < k → k ≤ suc n → Dec (k ≤ n) → t < tangentEntry k

@@ -1,10 +1,8 @@
 pub mod Rules
 pub mod Marked
-pub mod Answers
 pub mod Floor
 pub mod Angles
 pub mod Sines
-pub mod InOrder
 pub mod WorkedTerms
 pub mod WorkedLines
 pub mod WorkedBooks

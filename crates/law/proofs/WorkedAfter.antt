@@ -5,7 +5,7 @@ use mathlib.Core.List.{List, [], _++_}
 use Prim.Native.Nat.{ℕ}
 use lib.IntN.{pos}
 use lib.ListN.{replicate}
-use Rattle.law.specs.Answer.{value, refused, afterwards}
+use Rattle.reasoning.specs.Answer.{value, refused, afterwards}
 use Rattle.law.specs.Document.{TermValues, filled}
 use Rattle.law.specs.Book.{faulty, bookEnd, stop, handedPart, handedStart, byteAfter, leastThen, unsound, noYear, partOf, partStart, HeadValues, headRead, termsRead}
 

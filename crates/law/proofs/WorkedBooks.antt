@@ -9,12 +9,13 @@ use Rattle.law.specs.Sines.{sines}
 use Rattle.law.specs.Tangents.{tangents}
 use Rattle.law.specs.Entry.{sineEntry, tangentEntry}
 use Rattle.law.specs.Round.{halfUp, floorDiv, floorMod}
-use Rattle.law.specs.Answer.{value}
-use Rattle.law.specs.Document.{epicycles, solstice, fraction, root, meanPlace, perigee, inCircle, anomaly, mirrored, folded, between, sine, cosine, height, base, longSide, tangent, lastMinute, anglePast, angle, equation, runOnPlace, mark, start, visits, count, termDay, minuteOn, termMinute, termValues, visitsOff, inOrder, offBelow, termsAnswer, fillAnswer, dayName, mansion, TermValues}
+use Rattle.reasoning.specs.Answer.{value}
+use Rattle.reasoning.specs.InOrder.{inOrder}
+use Rattle.law.specs.Document.{epicycles, solstice, fraction, root, meanPlace, perigee, inCircle, anomaly, mirrored, folded, between, sine, cosine, height, base, longSide, tangent, lastMinute, anglePast, angle, equation, runOnPlace, mark, start, countFrom, count, termDay, minuteOn, termMinute, termValues, offFrom, offBelow, termsAnswer, fillAnswer, dayName, mansion, TermValues}
 use Rattle.law.specs.Book.{recordSize, outOfTurn, outOfRange, recordAnswer, termsFrom, yearFrom, yearsFrom, bookOf, sound, faulty, BookYear, termsOf, bytesOf, termsIn, valuesIn, readAnswer, HeadValues, headRead, termsRead, anyBad, badValues, writeAnswer, workedYear, workedAnswer}
 
 abbrev pub theTerm : ℤ → ℕ → ℕ → TermValues
-theTerm day minute count = record { dayOfTerm = day; minuteOfTerm = minute; midnights = count }
+theTerm day minute count = record { dayOfTerm = day; minuteOfTerm = minute; countOfTerm = count }
 
 abbrev theHead : ℤ → ℕ → ℕ → HeadValues
 theHead N name mansion = record { headN = N; headName = name; headMansion = mansion }
@@ -53,7 +54,7 @@ pub record WorkedBooks : Type 0 where
   pub minute-1440 : bookOf (with 9 (5 ∷ 160 ∷ [])) ≡ faulty 9 5
 
 pub worked-books : WorkedBooks
-unfolding sines tangents sineEntry tangentEntry halfUp floorDiv floorMod solstice fraction root meanPlace perigee inCircle anomaly mirrored folded between sine cosine height base longSide tangent lastMinute anglePast angle equation runOnPlace mark start visits count termDay minuteOn termMinute termValues visitsOff inOrder offBelow termsAnswer fillAnswer dayName mansion recordSize outOfTurn outOfRange recordAnswer termsFrom yearFrom yearsFrom termsOf bytesOf termsIn valuesIn readAnswer anyBad badValues writeAnswer workedYear workedAnswer
+unfolding sines tangents sineEntry tangentEntry halfUp floorDiv floorMod solstice fraction root meanPlace perigee inCircle anomaly mirrored folded between sine cosine height base longSide tangent lastMinute anglePast angle equation runOnPlace mark start countFrom count termDay minuteOn termMinute termValues offFrom inOrder offBelow termsAnswer fillAnswer dayName mansion recordSize outOfTurn outOfRange recordAnswer termsFrom yearFrom yearsFrom termsOf bytesOf termsIn valuesIn readAnswer anyBad badValues writeAnswer workedYear workedAnswer
 worked-books =
     record {
       worked-terms = refl;

@@ -6,7 +6,7 @@ use Rattle.law.specs.Sines.{sines}
 use Rattle.law.specs.Tangents.{tangents}
 use Rattle.law.specs.Entry.{sineEntry, tangentEntry}
 use Rattle.law.specs.Round.{halfUp, halfUpOnSize, floorDiv, floorMod}
-use Rattle.law.specs.Answer.{value, refused}
+use Rattle.reasoning.specs.Answer.{value, refused}
 use Rattle.law.specs.Document.{epicycles, solstice, fraction, root, meanPlace, perigee, inCircle, anomaly, mirrored, folded, between, sine, cosine, height, base, longSide, tangent, lastMinute, anglePast, angle, equation, runOnPlace, equationAnswer, clockOfArc, localMinutes, localDay, localMinute, localAnswer}
 use Rattle.law.proofs.WorkedLimits.{there}
 

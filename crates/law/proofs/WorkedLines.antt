@@ -5,12 +5,9 @@ use mathlib.Core.List.{List, [], _∷_}
 use Prim.Native.Nat.{ℕ}
 use lib.IntN.{pos, negℤ}
 use Rattle.law.specs.Round.{halfUp, floorDiv, floorMod}
-use Rattle.law.specs.Answer.{value, refused}
+use Rattle.reasoning.specs.Answer.{value, refused}
 use Rattle.law.specs.Document.{solstice, dayName, fraction, mansion, root, yearAnswer}
 use Rattle.law.specs.Request.{numberFrom, lineAsks, digitsOf, signedDigits, hourOf, minuteOf, yearText, refusedText, answerText, linesFrom, writtenFor, output, firstAsks}
-
-abbrev refused-1 : List ℕ
-refused-1 = 114 ∷ 101 ∷ 102 ∷ 117 ∷ 115 ∷ 101 ∷ 100 ∷ 32 ∷ 49 ∷ 10 ∷ []
 
 abbrev refused-11 : List ℕ
 refused-11 = 114 ∷ 101 ∷ 102 ∷ 117 ∷ 115 ∷ 101 ∷ 100 ∷ 32 ∷ 49 ∷ 49 ∷ 10 ∷ []

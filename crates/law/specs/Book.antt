@@ -4,10 +4,12 @@ use mathlib.Core.Bool.{Bool, false, cond, not, _||_}
 use mathlib.Core.List.{List, [], _∷_, _++_}
 use Prim.Native.Nat.{ℕ, zero, suc, _+_, _*_, _-_, _/_, _%_}
 use lib.Dec.{leb, ltb, eqb}
-use lib.IntN.{ℤ, pos, natAbs, _+ℤ_, _-ℤ_}
+use lib.IntN.{ℤ, pos, _-ℤ_}
 use lib.ListN.{length, getD, take, drop}
-use Rattle.law.specs.Answer.{Answer, value, refused, refusing}
-use Rattle.law.specs.Document.{badYear, badDay, badMinute, dayName, mansion, TermValues, termValues, inOrder, offBelow}
+use Rattle.reasoning.specs.Answer.{Answer, value, refused, refusing}
+use Rattle.law.specs.Index.{yearIndex, dayIndex}
+use Rattle.reasoning.specs.InOrder.{inOrder}
+use Rattle.law.specs.Document.{badYear, badDay, badMinute, dayName, mansion, TermValues, termValues, offBelow}
 
 -- ======== Records
 
@@ -170,28 +172,24 @@ pub data Sought : Type 0 where
   unsound : ℕ → ℕ → Sought
   noYear : ℕ → Sought
 
--- the year that is counted n, among at most so many
+-- the year whose index is y, among at most so many
 unfoldable pub seekFrom : ℕ → ℕ → ℕ → List ℕ → Sought
-seekFrom zero n at b = noYear 12
-seekFrom (suc most) n at [] = noYear 12
-seekFrom (suc most) n at (x ∷ b) =
-    cond (eqb (twoAt (x ∷ b) 1) n) (found at (at + yearSize (x ∷ b)))
-    (seekFrom most n (at + yearSize (x ∷ b)) (drop (yearSize (x ∷ b)) (x ∷ b)))
+seekFrom zero y at b = noYear 12
+seekFrom (suc most) y at [] = noYear 12
+seekFrom (suc most) y at (x ∷ b) =
+    cond (eqb (twoAt (x ∷ b) 1) y) (found at (at + yearSize (x ∷ b)))
+    (seekFrom most y (at + yearSize (x ∷ b)) (drop (yearSize (x ∷ b)) (x ∷ b)))
 
 abbrev pub seekIn : ℕ → ℕ → List ℕ → Sought
-seekIn n at b = seekFrom (length b) n at b
+seekIn y at b = seekFrom (length b) y at b
 
 abbrev pub ifSound : Checked → Sought → Sought
 ifSound (sound e) answer = answer
 ifSound (faulty n at) answer = unsound n at
 
--- N + 2,000, as the book counts years
-abbrev pub yearCount : ℤ → ℕ
-yearCount N = natAbs (N +ℤ pos 2_000)
-
 -- 1, then the whole book, then 12
 unfoldable pub seekOf : List ℕ → ℤ → Sought
-seekOf s N = cond (badYear N) (noYear 1) (ifSound (bookOf s) (seekIn (yearCount N) 0 s))
+seekOf s N = cond (badYear N) (noYear 1) (ifSound (bookOf s) (seekIn (yearIndex N) 0 s))
 
 -- seeking a year hands out its part; where no year is handed out, the part is empty
 abbrev pub partOf : List ℕ → Sought → List ℕ
@@ -214,10 +212,6 @@ pub record BookYear : Type 0 where
   pub yearMansion : ℕ
   pub yearTerms : List TermValues
 
--- day + 4, as the book counts days
-abbrev pub dayCount : ℤ → ℕ
-dayCount d = natAbs (d +ℤ pos 4)
-
 -- a number in two bytes, the high one first, before the rest
 abbrev pub twoOf : ℕ → List ℕ → List ℕ
 twoOf x rest = x / 256 % 256 ∷ x % 256 ∷ rest
@@ -225,15 +219,15 @@ twoOf x rest = x / 256 % 256 ∷ x % 256 ∷ rest
 -- the terms from term k on, before the rest; no count is heeded
 unfoldable pub termsOf : ℕ → List TermValues → List ℕ → List ℕ
 termsOf k [] rest = rest
-termsOf k (t ∷ ts) rest = 2 ∷ k ∷ twoOf (dayCount (t .dayOfTerm)) (twoOf (t .minuteOfTerm) (termsOf (suc k) ts rest))
+termsOf k (t ∷ ts) rest = 2 ∷ k ∷ twoOf (dayIndex (t .dayOfTerm)) (twoOf (t .minuteOfTerm) (termsOf (suc k) ts rest))
 
 -- a year's bytes, before the rest
 unfoldable pub bytesOf : BookYear → List ℕ → List ℕ
-bytesOf v rest = 1 ∷ twoOf (yearCount (v .yearN)) (v .yearName ∷ v .yearMansion ∷ termsOf 0 (v .yearTerms) rest)
+bytesOf v rest = 1 ∷ twoOf (yearIndex (v .yearN)) (v .yearName ∷ v .yearMansion ∷ termsOf 0 (v .yearTerms) rest)
 
 -- the term at the start of b, its count 0
 abbrev pub termIn : List ℕ → TermValues
-termIn b = record { dayOfTerm = pos (twoAt b 2) -ℤ pos 4; minuteOfTerm = twoAt b 4; midnights = 0 }
+termIn b = record { dayOfTerm = pos (twoAt b 2) -ℤ pos 4; minuteOfTerm = twoAt b 4; countOfTerm = 0 }
 
 unfoldable pub termsIn : ℕ → List ℕ → List TermValues
 termsIn zero b = []

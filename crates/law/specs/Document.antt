@@ -2,7 +2,7 @@
 -- N is the years elapsed from 1684 and d a day, signed. An angle is in whole units, and a place may be below 0 or past the circle.
 -- Assumes nothing.
 use mathlib.Core.Bool.{Bool, false, cond, _||_}
-use mathlib.Core.List.{List, [], _∷_, _++_}
+use mathlib.Core.List.{List, _++_}
 use Prim.Native.Nat.{ℕ, zero, suc, _+_, _*_, _-_, _/_, _%_}
 use lib.Dec.{leb, ltb}
 use lib.IntN.{ℤ, pos, negℤ, natAbs, _+ℤ_, _-ℤ_, _*ℤ_}
@@ -10,7 +10,8 @@ use lib.ListN.{drop}
 use lib.Signed.{ltZ}
 use Rattle.law.specs.Entry.{lastTangent, sineEntry, tangentEntry}
 use Rattle.law.specs.Round.{halfUp, halfUpOnSize, floorDiv, floorMod}
-use Rattle.law.specs.Answer.{Answer, value, refused, refusing}
+use Rattle.reasoning.specs.InOrder.{inOrder}
+use Rattle.reasoning.specs.Answer.{Answer, value, refused, refusing}
 
 -- ======== Units and constants
 
@@ -189,13 +190,13 @@ unfoldable pub start : ℤ → ℕ → ℤ
 start N k = floorDiv (mark k -ℤ pos (root N)) dailyMotion -ℤ pos 3
 
 -- the midnights visited from day d on, one further each time with so many left, until the first place past the mark
-unfoldable pub visits : (ℤ → ℤ) → ℤ → ℕ → ℤ → ℕ
-visits place mark zero d = zero
-visits place mark (suc left) d = cond (ltZ mark (place d)) 1 (suc (visits place mark left (d +ℤ pos 1)))
+unfoldable pub countFrom : (ℤ → ℤ) → ℤ → ℕ → ℤ → ℕ
+countFrom place mark zero d = zero
+countFrom place mark (suc left) d = cond (ltZ mark (place d)) 1 (suc (countFrom place mark left (d +ℤ pos 1)))
 
 -- at most eight are left at the start
 unfoldable pub count : ℕ → ℤ → ℕ → ℕ
-count e N k = visits (runOnPlace e N) (mark k) 8 (start N k)
+count e N k = countFrom (runOnPlace e N) (mark k) 8 (start N k)
 
 -- its day is the one before the first midnight past the mark
 unfoldable pub termDay : ℕ → ℤ → ℕ → ℤ
@@ -257,13 +258,13 @@ abbrev pub offTable : ℕ → ℕ → Bool
 offTable e a = ltb (tangentEntry lastTangent) (tangent e a)
 
 -- for a term: such a tangent at any midnight visited from day d on
-unfoldable pub visitsOff : (ℤ → Bool) → (ℤ → ℤ) → ℤ → ℕ → ℤ → Bool
-visitsOff off place mark zero d = false
-visitsOff off place mark (suc left) d = off d || cond (ltZ mark (place d)) false (visitsOff off place mark left (d +ℤ pos 1))
+unfoldable pub offFrom : (ℤ → Bool) → (ℤ → ℤ) → ℤ → ℕ → ℤ → Bool
+offFrom off place mark zero d = false
+offFrom off place mark (suc left) d = off d || cond (ltZ mark (place d)) false (offFrom off place mark left (d +ℤ pos 1))
 
 -- the midnights that the walk to term k visits
 abbrev pub offTerm : ℕ → ℤ → ℕ → Bool
-offTerm e N k = visitsOff (λ (d : ℤ). offTable e (anomaly N d)) (runOnPlace e N) (mark k) 8 (start N k)
+offTerm e N k = offFrom (λ (d : ℤ). offTable e (anomaly N d)) (runOnPlace e N) (mark k) 8 (start N k)
 
 -- ======== What the calls answer, the refusals in their order
 
@@ -274,11 +275,13 @@ pub record YearValues : Type 0 where
   pub dutyMansion : ℕ
   pub yearRoot : ℕ
 
+-- of the year N
+abbrev pub yearValues : ℤ → YearValues
+yearValues N = record { solsticeDay = dayName N; solsticeFraction = fraction N; dutyMansion = mansion N; yearRoot = root N }
+
 -- the year: 1
 unfoldable pub yearAnswer : ℤ → Answer YearValues
-yearAnswer N =
-    refusing (badYear N) 1
-    (value (record { solsticeDay = dayName N; solsticeFraction = fraction N; dutyMansion = mansion N; yearRoot = root N }))
+yearAnswer N = refusing (badYear N) 1 (value (yearValues N))
 
 -- the equation: 5; an anomaly given directly is brought into the circle
 unfoldable pub equationAnswer : ℕ → ℤ → Answer ℤ
@@ -302,20 +305,15 @@ runOnAnswer e N d =
 pub record TermValues : Type 0 where
   pub dayOfTerm : ℤ
   pub minuteOfTerm : ℕ
-  pub midnights : ℕ
+  pub countOfTerm : ℕ
 
 -- of term k of the year N
 unfoldable pub termValues : ℕ → ℤ → ℕ → TermValues
-termValues e N k = record { dayOfTerm = termDay e N k; minuteOfTerm = termMinute e N k; midnights = count e N k }
+termValues e N k = record { dayOfTerm = termDay e N k; minuteOfTerm = termMinute e N k; countOfTerm = count e N k }
 
 -- one term: 1, 3, 5
 unfoldable pub termAnswer : ℕ → ℤ → ℕ → Answer TermValues
 termAnswer e N k = refusing (badYear N) 1 (refusing (badTerm k) 3 (refusing (offTerm e N k) 5 (value (termValues e N k))))
-
--- f 0, f 1 and so on, n of them
-unfoldable pub inOrder : {A : Type 0} → (ℕ → A) → ℕ → List A
-inOrder f zero = []
-inOrder f (suc n) = f 0 ∷ inOrder (λ (k : ℕ). f (suc k)) n
 
 -- 5, at any term below k
 unfoldable pub offBelow : ℕ → ℤ → ℕ → Bool

@@ -8,7 +8,7 @@ use lib.Dec.{ltb, eqb}
 use lib.IntN.{ℤ, pos, negℤ, natAbs}
 use lib.ListN.{length}
 use lib.Signed.{ltZ}
-use Rattle.law.specs.Answer.{Answer, value, refused, refusing}
+use Rattle.reasoning.specs.Answer.{Answer, value, refused, refusing}
 use Rattle.law.specs.Document.{day, badYear, YearValues, yearAnswer}
 
 -- ======== The bytes
@@ -16,8 +16,8 @@ use Rattle.law.specs.Document.{day, badYear, YearValues, yearAnswer}
 abbrev pub newline : ℕ
 newline = 10
 
-abbrev pub blank : ℕ
-blank = 32
+abbrev pub space : ℕ
+space = 32
 
 abbrev pub minusSign : ℕ
 minusSign = 45
@@ -90,13 +90,13 @@ minuteOf fraction = fraction * 1_440 / day % 60
 unfoldable pub yearText : ℤ → YearValues → List ℕ
 yearText N year =
     signedDigits N
-    ++ ((blank ∷ digits (year .solsticeDay))
-    ++ ((blank ∷ twoDigits (hourOf (year .solsticeFraction)))
-    ++ ((colon ∷ twoDigits (minuteOf (year .solsticeFraction))) ++ ((blank ∷ digits (year .dutyMansion)) ++ (newline ∷ [])))))
+    ++ ((space ∷ digits (year .solsticeDay))
+    ++ ((space ∷ twoDigits (hourOf (year .solsticeFraction)))
+    ++ ((colon ∷ twoDigits (minuteOf (year .solsticeFraction))) ++ ((space ∷ digits (year .dutyMansion)) ++ (newline ∷ [])))))
 
 -- `refused` and a blank
 abbrev pub refusedWord : List ℕ
-refusedWord = 114 ∷ 101 ∷ 102 ∷ 117 ∷ 115 ∷ 101 ∷ 100 ∷ blank ∷ []
+refusedWord = 114 ∷ 101 ∷ 102 ∷ 117 ∷ 115 ∷ 101 ∷ 100 ∷ space ∷ []
 
 -- `refused` and the number
 unfoldable pub refusedText : ℕ → List ℕ

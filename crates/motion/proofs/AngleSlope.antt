@@ -29,8 +29,8 @@ div-gains z m c s h g =
     omega arith
 
 -- inside the minute from a to b, and at its end
-inside : (a b t : ℕ) → a + 2_908 ≤ b → a ≤ t → Gains 0 steepest ((t - a) * minute / (b - a)) ((suc t - a) * minute / (b - a))
-inside a b t s h =
+part-gains : (a b t : ℕ) → a + 2_908 ≤ b → a ≤ t → Gains 0 steepest ((t - a) * minute / (b - a)) ((suc t - a) * minute / (b - a))
+part-gains a b t s h =
     let e : (suc t - a) * minute ≡ (t - a) * minute + minute = omega arith in
     rw e (div-gains ((t - a) * minute) minute steepest (b - a) (omega arith) (omega arith))
 
@@ -61,7 +61,7 @@ in-minute t m h g l = go (decLt (suc t) (tangentEntry (m + 1)))
           arith,
           angle-at t m h g l,
           angle-at (suc t) m h (omega arith) i,
-          inside (tangentEntry m) (tangentEntry (m + 1)) t (tangent-step m h .0) g,
+          part-gains (tangentEntry m) (tangentEntry (m + 1)) t (tangent-step m h .0) g,
         )
     go (no i) =
         let e : suc t ≡ tangentEntry (m + 1) = omega arith in

@@ -5,26 +5,26 @@ use mathlib.Core.Bool.{Bool, true, false, cond}
 use Prim.Native.Nat.{ℕ, _+_, _*_, _-_, _/_, _%_, _≤_, _<_}
 use native.Mathlib.Decide.{decLt}
 use native.Mathlib.Omega.{arith}
+use borrow.Author.Tests.{lt-ltb, le-ltb, le-leb, lt-leb}
 use lib.Dec.{leb}
 use lib.IntN.{ℤ, pos, _+ℤ_, _*ℤ_}
-use Rattle.reasoning.proofs.Choice.{lt-yes, lt-no, le-yes, le-no}
 use Rattle.reasoning.proofs.Whole.{Is, is-pos, is-neg, is-add, is-minus, is-times}
 use Rattle.law.specs.Entry.{lastTangent}
 use Rattle.law.specs.Round.{halfUp}
-use Rattle.law.specs.Document.{circle, half, quarter, minute, day, yearLength, dailyMotion, perigeeYearly, perigeeDaily, perigeeEpoch, dayEpoch, mansionEpoch, radius, solstice, dayName, fraction, mansion, root, meanPlace, perigee, inCircle, anomaly, mirrored, folded, sine, cosine, height, base, longSide, tangent, angle, equation, runOnPlace}
+use Rattle.law.specs.Document.{circle, half, quarter, minute, day, yearLength, dailyMotion, perigeeYearly, perigeeDaily, perigeeEpoch, dayEpoch, mansionEpoch, radius, solstice, dayName, fraction, mansion, root, yearValues, meanPlace, perigee, inCircle, anomaly, mirrored, folded, sine, cosine, height, base, longSide, tangent, angle, equation, runOnPlace}
 use Rattle.law.proofs.Floor.{div-is, mod-is}
 use Rattle.law.proofs.Angles.{angle-le}
-use Rattle.motion.specs.Working.{liftDays, solsticeOf, rootFrom, rootOf, heightOf, baseOf, nearOf, farOf, tangentOf, angleAnswer, sizeAnswer, added, taken, anomalyOf, lift, placeOf}
+use Rattle.motion.specs.Working.{liftDays, solsticeOf, rootFrom, rootOf, yearOf, heightOf, baseOf, nearOf, farOf, tangentOf, angleAnswer, sizeAnswer, added, taken, anomalyOf, lift, placeOf}
 
 -- ---- the equation of centre, at the arc u from the perigee
 
 pub mirrored-low : (a : ℕ) → a ≤ half → mirrored a ≡ a
 unfolding mirrored
-mirrored-low a h = rw (le-yes h) refl
+mirrored-low a h = rw (le-leb _ _ h) refl
 
 pub mirrored-high : (a : ℕ) → half < a → mirrored a ≡ circle - a
 unfolding mirrored
-mirrored-high a h = rw (le-no h) refl
+mirrored-high a h = rw (lt-leb _ _ h) refl
 
 pub tangent-is : (e a : ℕ) → tangent e a ≡ tangentOf e (mirrored a)
 unfolding tangent longSide base height folded tangentOf nearOf farOf heightOf baseOf
@@ -40,12 +40,12 @@ tangent-is e a = go (mirrored a) (leb (mirrored a) quarter)
 -- from a height h and a base b that are those of the arc
 pub tangent-near : (e u h b : ℕ) → u ≤ quarter → h ≡ heightOf e u → b ≡ baseOf e u → halfUp (2 * h * radius) (radius - b) ≡ tangentOf e u
 unfolding tangentOf nearOf
-tangent-near e u h b l p q = rw (le-yes l, p, q) refl
+tangent-near e u h b l p q = rw (le-leb _ _ l, p, q) refl
 
 pub tangent-far : (e u h b : ℕ) → quarter < u → h ≡ heightOf e (half - u) → b ≡ baseOf e (half - u)
     → halfUp (2 * h * radius) (radius + b) ≡ tangentOf e u
 unfolding tangentOf farOf
-tangent-far e u h b l p q = rw (le-no l, p, q) refl
+tangent-far e u h b l p q = rw (lt-leb _ _ l, p, q) refl
 
 -- the size at an anomaly in the circle is the angle of the tangent at its arc
 pub size-from : (e a t : ℕ) → t ≡ tangentOf e (mirrored a) → angleAnswer t ≡ sizeAnswer e a
@@ -58,16 +58,16 @@ unfolding equation added taken
 equation-is e a = go (decLt a half)
   where
     go : Dec (a < half) → Is (equation e a) (added e a) (taken e a)
-    go (yes l) = rw (lt-yes l) (is-pos (angle (tangent e a)))
-    go (no l) = let g : half ≤ a = omega arith in rw (lt-no g) (is-neg (is-pos (angle (tangent e a))))
+    go (yes l) = rw (lt-ltb _ _ l) (is-pos (angle (tangent e a)))
+    go (no l) = let g : half ≤ a = omega arith in rw (le-ltb _ _ g) (is-neg (is-pos (angle (tangent e a))))
 
 pub sides-le : (e a : ℕ) → (added e a ≤ lastTangent * minute) × (taken e a ≤ lastTangent * minute)
 unfolding added taken
 sides-le e a = go (decLt a half)
   where
     go : Dec (a < half) → (added e a ≤ lastTangent * minute) × (taken e a ≤ lastTangent * minute)
-    go (yes l) = rw (lt-yes l) (angle-le (tangent e a), omega arith)
-    go (no l) = let g : half ≤ a = omega arith in rw (lt-no g) (omega arith, angle-le (tangent e a))
+    go (yes l) = rw (lt-ltb _ _ l) (angle-le (tangent e a), omega arith)
+    go (no l) = let g : half ≤ a = omega arith in rw (le-ltb _ _ g) (omega arith, angle-le (tangent e a))
 
 -- ---- the year
 
@@ -84,7 +84,6 @@ module _ {N : ℤ} {y : ℕ} (h : Is N y 2_000) where
   unfolding dayName
   day-name-is = mod-is (liftDays / 60) 60 (omega arith) (div-is liftDays day (omega arith) solstice-is)
 
-  -- the mansion's epoch is two days before the day's, so 2 less and 1 more: 27 more, taken by 28
   pub mansion-is : mansion N ≡ (solsticeOf y / day + 27) % 28
   unfolding mansion solsticeOf
   mansion-is =
@@ -95,6 +94,10 @@ module _ {N : ℤ} {y : ℕ} (h : Is N y 2_000) where
   pub root-is : root N ≡ rootOf y
   unfolding root rootOf rootFrom
   root-is = rw fraction-is refl
+
+  pub year-values-is : yearValues N ≡ yearOf y
+  unfolding yearOf
+  year-values-is = rw (day-name-is, fraction-is, mansion-is, root-is) refl
 
   -- ---- the day
   module _ {d : ℤ} {j : ℕ} (g : Is d j 4) where

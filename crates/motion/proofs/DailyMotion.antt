@@ -8,7 +8,7 @@ use Rattle.law.specs.Document.{second, circle, dailyMotion, epicycles}
 use Rattle.motion.specs.Working.{gain, anomalyOf, placeOf}
 use Rattle.motion.proofs.Slope.{Gains}
 use Rattle.motion.proofs.Equation.{added-taken-le}
-use Rattle.motion.proofs.Turns.{Turns, turns-any, turns-own}
+use Rattle.motion.proofs.CircleChange.{RoundTheCircle, turns-any, turns-own}
 
 pub anomaly-lt : (y j : ℕ) → anomalyOf y j < circle
 unfolding anomalyOf
@@ -20,10 +20,10 @@ anomaly-next y j = rw mod-add-mod (ap (λ (z : ℕ). z % circle) (omega arith))
 
 -- at least low, where the equation loses no more than the rest of the daily motion
 place-gains : (e fall low : ℕ) → e ≤ epicycles → 1_000_000 * (low + 10_400_000) + fall * gain ≤ 1_000_000 * dailyMotion
-    → (y j : ℕ) → Turns e fall gain (anomalyOf y j) ((anomalyOf y j + gain) % circle) → Gains low (3_679 * second) (placeOf e y j) (placeOf e y (suc j))
+    → (y j : ℕ) → RoundTheCircle e fall gain (anomalyOf y j) ((anomalyOf y j + gain) % circle) → Gains low (3_679 * second) (placeOf e y j) (placeOf e y (suc j))
 unfolding placeOf
 place-gains e fall low o enough y j w =
-    let t : Turns e fall gain (anomalyOf y j) (anomalyOf y (suc j)) = rw anomaly-next w in
+    let t : RoundTheCircle e fall gain (anomalyOf y j) (anomalyOf y (suc j)) = rw anomaly-next w in
     omega (arith, added-taken-le e (anomalyOf y j) o, added-taken-le e (anomalyOf y (suc j)) o)
 
 -- at any difference of the epicycles up to document 01's, from 3,418″ to 3,679″; at document 01's own, from 3,422″

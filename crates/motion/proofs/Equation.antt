@@ -5,7 +5,7 @@ use Prim.Native.Nat.{ℕ, _+_, _-_, _≤_, _<_}
 use native.Mathlib.Decide.{decLt}
 use native.Mathlib.Nat.{mul-zero, div-eq-of-lt}
 use native.Mathlib.Omega.{arith}
-use Rattle.reasoning.proofs.Choice.{lt-yes, lt-no, le-yes, le-no}
+use borrow.Author.Tests.{lt-ltb, le-ltb, le-leb, lt-leb}
 use Rattle.law.specs.Round.{halfUp}
 use Rattle.law.specs.Document.{circle, half, quarter, radius, epicycles, mirrored, angle}
 use Rattle.motion.specs.Working.{heightOf, baseOf, nearOf, farOf, tangentOf, added, taken}
@@ -27,14 +27,14 @@ at-quarter e = rw (base-is, height-0°) refl
 
 pub by-near : (e u : ℕ) → u ≤ quarter → equationOf e u ≡ angle (nearOf e u)
 unfolding equationOf tangentOf
-by-near e u h = rw (le-yes h) refl
+by-near e u h = rw (le-leb _ _ h) refl
 
 pub by-far : (e u : ℕ) → quarter ≤ u → equationOf e u ≡ angle (farOf e (half - u))
 unfolding equationOf tangentOf
 by-far e u h = go (decLt quarter u)
   where
     go : Dec (quarter < u) → equationOf e u ≡ angle (farOf e (half - u))
-    go (yes l) = rw (le-no l) refl
+    go (yes l) = rw (lt-leb _ _ l) refl
     go (no l) =
         let i : u ≡ quarter = omega arith in
         rw i (by-near e quarter (omega arith) ∙ ap angle (at-quarter e))
@@ -60,15 +60,15 @@ equation-180° e = by-far e half (omega arith) ∙ rw (height-0°, no-height (ra
 module _ (e a : ℕ) where
   pub added-low : a < half → added e a ≡ equationOf e a
   unfolding added equationOf
-  added-low h = rw (lt-yes h, tangent-is, mirrored-low a (omega arith)) refl
+  added-low h = rw (lt-ltb _ _ h, tangent-is, mirrored-low a (omega arith)) refl
 
   pub added-high : half ≤ a → added e a ≡ 0
   unfolding added
-  added-high h = rw (lt-no h) refl
+  added-high h = rw (le-ltb _ _ h) refl
 
   pub taken-low : a < half → taken e a ≡ 0
   unfolding taken
-  taken-low h = rw (lt-yes h) refl
+  taken-low h = rw (lt-ltb _ _ h) refl
 
   mirrored-past : half ≤ a → mirrored a ≡ circle - a
   mirrored-past h = go (decLt half a)
@@ -79,7 +79,7 @@ module _ (e a : ℕ) where
 
   pub taken-high : half ≤ a → taken e a ≡ equationOf e (circle - a)
   unfolding taken equationOf
-  taken-high h = rw (lt-no h, tangent-is, mirrored-past h) refl
+  taken-high h = rw (le-ltb _ _ h, tangent-is, mirrored-past h) refl
 
   -- either way, never above 7,391″
   pub added-taken-le : e ≤ epicycles → (added e a ≤ mostEquation) × (taken e a ≤ mostEquation)

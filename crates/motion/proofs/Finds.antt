@@ -4,38 +4,38 @@ use mathlib.Core.Path.{_≡_, refl, ap, _∙_, subst}
 use Prim.Native.Nat.{ℕ, suc, _+_, _*_, _-_, _/_, _≤_, _<_}
 use native.Mathlib.Decide.{decLt}
 use native.Mathlib.Omega.{arith}
-use Rattle.reasoning.proofs.Choice.{lt-yes, lt-no}
-use Rattle.law.specs.Answer.{value, refused}
+use borrow.Author.Tests.{lt-ltb, le-ltb}
+use Rattle.reasoning.specs.Answer.{value, refused}
 use Rattle.law.specs.Document.{second, degree, dailyMotion, epicycles, offTable}
-use Rattle.law.proofs.Answers.{passed, stopped}
-use Rattle.motion.specs.Working.{rootOf, anomalyOf, lift, placeOf, placeAnswer, markOf, startOf, visited, minuteBetween, Find, findFrom, findOf}
+use Rattle.reasoning.proofs.Answers.{passed, stopped}
+use Rattle.motion.specs.Working.{rootOf, anomalyOf, lift, placeOf, placeAnswer, markOf, startOf, countFromOf, minuteBetween, Find, findFrom, findOf}
 use Rattle.motion.proofs.DailyMotion.{place-next}
 use Rattle.motion.proofs.Walk.{start-le, start-before, start-after}
 use Rattle.motion.proofs.NeverOffTable.{never-off-table}
 
 -- ---- any places
 
-module _ (place : ℕ → ℕ) (mark left j seen : ℕ) where
+module _ (place : ℕ → ℕ) (mark left j count : ℕ) where
   -- before is the place of the midnight before j
   find-here : (before : ℕ) → 0 < j → mark < place j → before ≡ place (j - 1)
-      → record { night = j - 1; moment = minuteBetween mark before (place j); nights = seen + 1 } ≡ findFrom place mark (suc left) j seen
-  unfolding findFrom visited
+      → record { dayFound = j - 1; minuteFound = minuteBetween mark before (place j); countFound = count + 1 } ≡ findFrom place mark (suc left) j count
+  unfolding findFrom countFromOf
   find-here before p h e =
       let i : j + 1 - 2 ≡ j - 1 = omega arith in
       let n : suc (j - 1) ≡ j = omega arith in
-      rw (lt-yes h, i, n, e) refl
+      rw (lt-ltb _ _ h, i, n, e) refl
 
-  find-further : place j ≤ mark → findFrom place mark left (suc j) (seen + 1) ≡ findFrom place mark (suc left) j seen
-  unfolding findFrom visited
-  find-further h = rw (lt-no h) (go (visited place mark left (suc j)))
+  find-further : place j ≤ mark → findFrom place mark left (suc j) (count + 1) ≡ findFrom place mark (suc left) j count
+  unfolding findFrom countFromOf
+  find-further h = rw (le-ltb _ _ h) (go (countFromOf place mark left (suc j)))
     where
       at : ℕ → ℕ → Find
-      at n s = record { night = n; moment = minuteBetween mark (place n) (place (suc n)); nights = s }
+      at n s = record { dayFound = n; minuteFound = minuteBetween mark (place n) (place (suc n)); countFound = s }
 
-      go : (c : ℕ) → at (suc j + c - 2) (seen + 1 + c) ≡ at (j + suc c - 2) (seen + suc c)
+      go : (c : ℕ) → at (suc j + c - 2) (count + 1 + c) ≡ at (j + suc c - 2) (count + suc c)
       go c =
           let i : suc j + c - 2 ≡ j + suc c - 2 = omega arith in
-          let s : seen + 1 + c ≡ seen + suc c = omega arith in
+          let s : count + 1 + c ≡ count + suc c = omega arith in
           rw (i, s) refl
 
 -- ---- the places of a year
@@ -53,14 +53,14 @@ place-given y j s =
     let z : _≡_ {A = ℕ} 0 1 = cc in omega arith
 
 -- what a walk knows at the midnight j, p being its place
-module _ (y mark left j before seen p : ℕ) (e : p ≡ placeOf epicycles y j) (l : 0 < left) (b : before ≤ mark)
+module _ (y mark left j before count p : ℕ) (e : p ≡ placeOf epicycles y j) (l : 0 < left) (b : before ≤ mark)
     (h : mark < placeOf epicycles y j → (0 < j) × (before ≡ placeOf epicycles y (j - 1))) where
   -- past the mark
   pub record Here : Type 0 where
     pub first : 0 < j
     pub rises : before < p
     pub near : p ≤ before + 3_679 * second
-    pub is : record { night = j - 1; moment = minuteBetween mark before p; nights = seen + 1 } ≡ findFrom (placeOf epicycles y) mark left j seen
+    pub is : record { dayFound = j - 1; minuteFound = minuteBetween mark before p; countFound = count + 1 } ≡ findFrom (placeOf epicycles y) mark left j count
 
   pub here : mark < p → Here
   here g =
@@ -72,7 +72,7 @@ module _ (y mark left j before seen p : ℕ) (e : p ≡ placeOf epicycles y j) (
         first = w .0;
         rises = omega arith;
         near = omega (arith, ap (placeOf epicycles y) n, w .1);
-        is = rw (e, ← s) (find-here (placeOf epicycles y) mark (left - 1) j seen before (w .0) (omega arith) (w .1));
+        is = rw (e, ← s) (find-here (placeOf epicycles y) mark (left - 1) j count before (w .0) (omega arith) (w .1));
       }
 
   -- not past it
@@ -80,7 +80,7 @@ module _ (y mark left j before seen p : ℕ) (e : p ≡ placeOf epicycles y j) (
     pub more : 1 < left
     pub past : mark < placeOf epicycles y (j + 1 + (left - 1) - 1)
     pub own : mark < placeOf epicycles y (j + 1) → (0 < j + 1) × (p ≡ placeOf epicycles y (j + 1 - 1))
-    pub is : findFrom (placeOf epicycles y) mark (left - 1) (j + 1) (seen + 1) ≡ findFrom (placeOf epicycles y) mark left j seen
+    pub is : findFrom (placeOf epicycles y) mark (left - 1) (j + 1) (count + 1) ≡ findFrom (placeOf epicycles y) mark left j count
 
   pub on : mark < placeOf epicycles y (j + left - 1) → p ≤ mark → On
   on m g =
@@ -93,8 +93,8 @@ module _ (y mark left j before seen p : ℕ) (e : p ≡ placeOf epicycles y j) (
         past = omega (arith, ap (placeOf epicycles y) same);
         own = λ _. (omega arith, e ∙ ap (placeOf epicycles y) back);
         is = rw i
-            (subst (λ (n : ℕ). findFrom (placeOf epicycles y) mark (left - 1) (suc j) (seen + 1) ≡ findFrom (placeOf epicycles y) mark n j seen) s
-            (find-further (placeOf epicycles y) mark (left - 1) j seen (omega arith)));
+            (subst (λ (n : ℕ). findFrom (placeOf epicycles y) mark (left - 1) (suc j) (count + 1) ≡ findFrom (placeOf epicycles y) mark n j count) s
+            (find-further (placeOf epicycles y) mark (left - 1) j count (omega arith)));
       }
     where
       enough : Dec (1 < left) → 1 < left

@@ -4,7 +4,7 @@ use mathlib.Core.Bool.{false}
 use Prim.Native.Nat.{ℕ, _≤_}
 use native.Mathlib.Decide.{decLe}
 use native.Mathlib.Omega.{arith}
-use Rattle.reasoning.proofs.Choice.{lt-no}
+use borrow.Author.Tests.{le-ltb}
 use Rattle.law.specs.Entry.{lastTangent, tangentEntry}
 use Rattle.law.specs.Document.{half, epicycles, mirrored, tangent, offTable}
 use Rattle.law.proofs.Rules.{tangent-range}
@@ -22,4 +22,4 @@ pub never-off-table : (e : ℕ) → e ≤ epicycles → (a : ℕ) → offTable e
 never-off-table e o a =
     let h : tangent e a ≤ tangentEntry lastTangent =
     omega (arith, tangent-is e a, tangent-le e o (mirrored a) (mirrored-le a), tangent-range lastTangent (omega arith)) in
-    lt-no h
+    le-ltb _ _ h

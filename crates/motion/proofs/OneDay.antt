@@ -10,7 +10,8 @@ use Rattle.law.specs.Document.{epicycles, mark, termDay}
 use Rattle.motion.specs.Working.{lift, markOf}
 use Rattle.motion.proofs.Walk.{dayOf, start-le, walk, one-day}
 use Rattle.motion.proofs.TermBridge.{term-day-is}
-use Rattle.motion.proofs.Years.{InYears, Holds, yearOf, year-is, year-le, place-is}
+use Rattle.law.specs.Index.{yearIndex}
+use Rattle.motion.proofs.Years.{InYears, Holds, year-is, year-le, place-is}
 
 -- d has the mark m, and is the only day from -4 to 369 that has
 pub record OnlyDay (e : ℕ) (N m d : ℤ) : Type 0 where
@@ -23,18 +24,18 @@ pub term-day : (e : ℕ) → e ≤ epicycles → (N : ℤ) → InYears N → (k 
 unfolding mark
 term-day e o N i k h =
     let g = term-day-is (year-is i) e (year-le i) k o in
-    let w = walk e o (yearOf N) (markOf k) in
+    let w = walk e o (yearIndex N) (markOf k) in
     let m = is-pos (markOf k) in
     record {
       least = le-is (is-neg (is-pos 4)) g (omega arith);
-      most = le-is g (is-pos 369) (omega (arith, start-le (yearOf N) k h, w .within));
+      most = le-is g (is-pos 369) (omega (arith, start-le (yearIndex N) k h, w .most));
       holds = record {
         before = le-is (place-is i e g) m (omega (arith, w .before));
         after = lt-is m (place-is i e (is-next g)) (omega (arith, w .after));
       };
       only = λ (f : ℤ) (a : negℤ (pos 4) ≤ℤ f) (_ : f ≤ℤ pos 369) (q : Holds e N (mark k) f).
           let t = is-from 4 a in
-          same t g (ap (λ (x : ℕ). x + 4) (one-day e o (yearOf N) (markOf k + lift) (natAbs (f +ℤ pos 4)) (dayOf e (yearOf N) (markOf k))
+          same t g (ap (λ (x : ℕ). x + 4) (one-day e o (yearIndex N) (markOf k + lift) (natAbs (f +ℤ pos 4)) (dayOf e (yearIndex N) (markOf k))
           (omega (arith, is-le (place-is i e t) m (q .before)))
           (omega (arith, is-lt m (place-is i e (is-next t)) (q .after)))
           (w .before) (w .after)));

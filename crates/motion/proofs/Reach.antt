@@ -5,9 +5,9 @@ use Prim.Native.Nat.{ℕ, _+_, _*_, _-_, _/_, _%_, _≤_, _<_}
 use native.Mathlib.Nat.{mul-le-mul-left, div-lt-iff-lt-mul}
 use native.Mathlib.Decide.{decLt, decLe}
 use native.Mathlib.Omega.{arith}
+use borrow.Author.Tests.{le-leb, lt-leb}
 use lib.Dec.{leb, leb→le}
 use Rattle.reasoning.proofs.Every.{seat}
-use Rattle.reasoning.proofs.Choice.{le-yes, le-no}
 use Rattle.law.specs.Sines.{sines}
 use Rattle.law.specs.Entry.{lastSine, sineEntry}
 use Rattle.law.specs.Round.{halfUp}
@@ -37,9 +37,9 @@ unfolding sineEntry sines
 entry-weight-le k h = leb→le (entryWeight k) mostWeight (seat (λ (i : ℕ). leb (entryWeight i) mostWeight) 541 tt k (omega arith))
 
 -- in plain numbers: what holds at two entries, a and b rising by u and v, holds r units on from the first
-inside : (a u b v r q m : ℕ) → r + q ≡ tenMinutes → weigh a (b + v) ≤ m → weigh (a + u) b ≤ m
+in-cell : (a u b v r q m : ℕ) → r + q ≡ tenMinutes → weigh a (b + v) ≤ m → weigh (a + u) b ≤ m
     → weigh (tenMinutes * a + u * r) (tenMinutes * b + v * q) ≤ tenMinutes * m
-inside a u b v r q m e h g =
+in-cell a u b v r q m e h g =
     omega (arith, mul-le-mul-left q h, mul-le-mul-left r g, ap (λ (z : ℕ). z * a) e, ap (λ (z : ℕ). z * b) e, ap (λ (z : ℕ). z * m) e)
 
 -- k and 539 - k are the entries below an arc and below its complement
@@ -49,7 +49,7 @@ past-entry : (k r : ℕ) → k < lastSine → r ≤ tenMinutes
 past-entry k r h g =
     let e : 539 - k + 1 ≡ lastSine - k = omega arith in
     let f : lastSine - (k + 1) ≡ 539 - k = omega arith in
-    inside (sineEntry k) (sineEntry (k + 1) - sineEntry k) (sineEntry (539 - k)) (sineEntry (539 - k + 1) - sineEntry (539 - k))
+    in-cell (sineEntry k) (sineEntry (k + 1) - sineEntry k) (sineEntry (539 - k)) (sineEntry (539 - k + 1) - sineEntry (539 - k))
     r (tenMinutes - r) mostWeight (omega arith)
     (omega (arith, entry-weight-le k (omega arith), ap sineEntry e, sine-step (539 - k) (omega arith)))
     (omega (arith, entry-weight-le (k + 1) (omega arith), ap sineEntry f, sine-step k (omega arith)))
@@ -105,5 +105,5 @@ module _ (e : ℕ) (o : e ≤ epicycles) where
   tangent-le u h = go (decLe u quarter)
     where
       go : Dec (u ≤ quarter) → tangentOf e u ≤ mostTangent
-      go (yes l) = rw (le-yes l) (near-le u l)
-      go (no l) = let g : quarter < u = omega arith in rw (le-no g) (far-le (half - u) (omega arith))
+      go (yes l) = rw (le-leb _ _ l) (near-le u l)
+      go (no l) = let g : quarter < u = omega arith in rw (lt-leb _ _ g) (far-le (half - u) (omega arith))

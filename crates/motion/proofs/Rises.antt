@@ -7,7 +7,8 @@ use lib.Signed.{_≤ℤ_, _<ℤ_}
 use Rattle.reasoning.proofs.Whole.{Is, is-pos, is-minus, is-from, lt-is}
 use Rattle.law.specs.Document.{epicycles, runOnPlace}
 use Rattle.motion.proofs.DailyMotion.{place-next}
-use Rattle.motion.proofs.Years.{InYears, yearOf, place-is}
+use Rattle.law.specs.Index.{yearIndex}
+use Rattle.motion.proofs.Years.{InYears, place-is}
 
 pub rises : (e : ℕ) → e ≤ epicycles → (N : ℤ) → InYears N
     → (d : ℤ) → negℤ (pos 3) ≤ℤ d → d ≤ℤ pos 370 → runOnPlace e N (d -ℤ pos 1) <ℤ runOnPlace e N d
@@ -16,4 +17,4 @@ rises e o N i d a _ =
     let t : Is d j 3 = is-from 3 a in
     let p : Is (d -ℤ pos 1) j 4 = omega (arith, is-minus t (is-pos 1)) in
     let q : Is d (suc j) 4 = omega arith in
-    lt-is (place-is i e p) (place-is i e q) (omega (arith, place-next e o (yearOf N) j))
+    lt-is (place-is i e p) (place-is i e q) (omega (arith, place-next e o (yearIndex N) j))

@@ -60,8 +60,8 @@ pub record Climbs (d n a b : ℕ) : Type 0 where
   pub climbs : tenMinutes * b ≤ tenMinutes * a + d * n + tenMinutes
 
 -- in plain numbers: one unit on, r units past the entry a, and at the next entry b
-inside : (a b r d : ℕ) → Gains 0 d a b → Gains 0 d (tenMinutes * a + (b - a) * r) (tenMinutes * a + (b - a) * (r + 1))
-inside a b r d h = omega arith
+in-step : (a b r d : ℕ) → Gains 0 d a b → Gains 0 d (tenMinutes * a + (b - a) * r) (tenMinutes * a + (b - a) * (r + 1))
+in-step a b r d h = omega arith
 
 at-end : (a b r d : ℕ) → Gains 0 d a b → r + 1 ≡ tenMinutes → Gains 0 d (tenMinutes * a + (b - a) * r) (tenMinutes * b)
 at-end a b r d h e = omega (arith, ap (λ (z : ℕ). (b - a) * z) e)
@@ -78,7 +78,7 @@ module _ {entry : ℕ → ℕ} {p q d : ℕ} (s : Steps entry p q d) where
       go (yes l) =
           let e : suc x / tenMinutes ≡ x / tenMinutes = omega arith in
           let m : suc x % tenMinutes ≡ x % tenMinutes + 1 = omega arith in
-          rw (e, m) (inside (entry (x / tenMinutes)) (entry (x / tenMinutes + 1)) (x % tenMinutes) d k)
+          rw (e, m) (in-step (entry (x / tenMinutes)) (entry (x / tenMinutes + 1)) (x % tenMinutes) d k)
       go (no l) =
           let e : suc x / tenMinutes ≡ x / tenMinutes + 1 = omega arith in
           let m : suc x % tenMinutes ≡ 0 = omega arith in

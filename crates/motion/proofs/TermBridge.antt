@@ -8,21 +8,21 @@ use lib.Dec.{ltb}
 use lib.IntN.{ℤ, pos, natAbs, _-ℤ_}
 use lib.Signed.{ltZ}
 use Rattle.reasoning.proofs.Whole.{Is, is-pos, is-next, is-add, is-minus, is-abs, ltZ-is}
-use Rattle.law.specs.Document.{dailyMotion, epicycles, root, runOnPlace, mark, start, visits, count, termDay, minuteOn, termMinute}
+use Rattle.law.specs.Document.{dailyMotion, epicycles, root, runOnPlace, mark, start, countFrom, count, termDay, minuteOn, termMinute}
 use Rattle.law.proofs.Floor.{div-is}
-use Rattle.motion.specs.Working.{rootOf, lift, placeOf, markOf, startOf, visited}
+use Rattle.motion.specs.Working.{rootOf, lift, placeOf, markOf, startOf, countFromOf}
 use Rattle.motion.proofs.Bridge.{root-is, run-on-is}
 use Rattle.motion.proofs.Root.{root-of-le}
 use Rattle.motion.proofs.Walk.{countOf, dayOf, walk}
 
 -- the walk, over any place that its working form lifts by s
-pub visits-is : (place : ℤ → ℤ) (placed : ℕ → ℕ) (m s : ℕ) → ((d : ℤ) (j : ℕ) → Is d j 4 → Is (place d) (placed j) s)
-    → (left : ℕ) {d : ℤ} {j : ℕ} → Is d j 4 → visits place (pos m) left d ≡ visited placed (m + s) left j
-unfolding visits visited
-visits-is place placed m s t zero g = refl
-visits-is place placed m s t (suc left) {d} {j} g =
+pub count-from-is : (place : ℤ → ℤ) (placed : ℕ → ℕ) (m s : ℕ) → ((d : ℤ) (j : ℕ) → Is d j 4 → Is (place d) (placed j) s)
+    → (left : ℕ) {d : ℤ} {j : ℕ} → Is d j 4 → countFrom place (pos m) left d ≡ countFromOf placed (m + s) left j
+unfolding countFrom countFromOf
+count-from-is place placed m s t zero g = refl
+count-from-is place placed m s t (suc left) {d} {j} g =
     let i : ltZ (pos m) (place d) ≡ ltb (m + s) (placed j) = rw add-zero at (ltZ-is (is-pos m) (t d j g)) in
-    rw (i, visits-is place placed m s t left (is-next g)) refl
+    rw (i, count-from-is place placed m s t left (is-next g)) refl
 
 -- two numbers lifted alike
 abs-apart : {x z : ℤ} {a b s : ℕ} → Is x a s → Is z b s → b ≤ a → natAbs (x -ℤ z) ≡ a - b
@@ -41,13 +41,13 @@ module _ {N : ℤ} {y : ℕ} (h : Is N y 2_000) where
     pub count-is : count e N k ≡ countOf e y (markOf k)
     unfolding count mark
     count-is =
-        visits-is (runOnPlace e N) (placeOf e y) (markOf k) lift (λ (d : ℤ) (j : ℕ) (g : Is d j 4). run-on-is h g e l) 8 (start-is k)
+        count-from-is (runOnPlace e N) (placeOf e y) (markOf k) lift (λ (d : ℤ) (j : ℕ) (g : Is d j 4). run-on-is h g e l) 8 (start-is k)
 
     module _ (o : e ≤ epicycles) where
       pub term-day-is : Is (termDay e N k) (dayOf e y (markOf k)) 4
       unfolding termDay
       term-day-is =
-          omega (arith, is-minus (is-add (start-is k) (is-pos (count e N k))) (is-pos 2), count-is, walk e o y (markOf k) .two)
+          omega (arith, is-minus (is-add (start-is k) (is-pos (count e N k))) (is-pos 2), count-is, walk e o y (markOf k) .least)
 
       pub term-minute-is : termMinute e N k
           ≡ 1_440 * (markOf k + lift - placeOf e y (dayOf e y (markOf k)))

@@ -4,9 +4,9 @@ use mathlib.Core.Path.{_≡_}
 use Prim.Native.Nat.{ℕ, zero, suc, _+_, _*_, _-_, _≤_, _<_}
 use native.Mathlib.Decide.{decLt}
 use native.Mathlib.Omega.{arith}
-use Rattle.reasoning.proofs.Choice.{lt-yes, lt-no}
+use borrow.Author.Tests.{lt-ltb, le-ltb}
 use Rattle.law.specs.Document.{second, dailyMotion, epicycles}
-use Rattle.motion.specs.Working.{rootOf, anomalyOf, headroom, lift, placeOf, markOf, startOf, visited}
+use Rattle.motion.specs.Working.{rootOf, anomalyOf, headroom, lift, placeOf, markOf, startOf, countFromOf}
 use Rattle.motion.proofs.Root.{root-of-le}
 use Rattle.motion.proofs.Slope.{Gains, gains}
 use Rattle.motion.proofs.AngleSlope.{mostEquation}
@@ -16,32 +16,32 @@ use Rattle.motion.proofs.DailyMotion.{place-next}
 -- ---- any walk
 
 -- a count, at most so many, of midnights from j on, of which the last is past the mark and the one before it is not
-pub record Found (place : ℕ → ℕ) (mark most j count : ℕ) : Type 0 where
-  pub two : 2 ≤ count
-  pub within : count ≤ most
+pub record FirstPast (place : ℕ → ℕ) (mark limit j count : ℕ) : Type 0 where
+  pub least : 2 ≤ count
+  pub most : count ≤ limit
   pub before : place (j + count - 2) ≤ mark
   pub after : mark < place (suc (j + count - 2))
 
-pub found : (place : ℕ → ℕ) (mark left j : ℕ) → place j ≤ mark → mark < place (j + left)
-    → Found place mark (suc left) j (visited place mark (suc left) j)
-unfolding visited
-found place mark zero j h g = let e : j + 0 ≡ j = omega arith in absurd (omega (arith, rw e at g))
-found place mark (suc left) j h g =
-    rw (lt-no h)
+pub first-past : (place : ℕ → ℕ) (mark left j : ℕ) → place j ≤ mark → mark < place (j + left)
+    → FirstPast place mark (suc left) j (countFromOf place mark (suc left) j)
+unfolding countFromOf
+first-past place mark zero j h g = let e : j + 0 ≡ j = omega arith in absurd (omega (arith, rw e at g))
+first-past place mark (suc left) j h g =
+    rw (le-ltb _ _ h)
     (go (decLt mark (place (suc j)))
-    (λ (l : place (suc j) ≤ mark). found place mark left (suc j) l (let e : j + suc left ≡ suc j + left = omega arith in rw e at g)))
+    (λ (l : place (suc j) ≤ mark). first-past place mark left (suc j) l (let e : j + suc left ≡ suc j + left = omega arith in rw e at g)))
   where
-    go : Dec (mark < place (suc j)) → (place (suc j) ≤ mark → Found place mark (suc left) (suc j) (visited place mark (suc left) (suc j)))
-        → Found place mark (suc (suc left)) j (suc (visited place mark (suc left) (suc j)))
+    go : Dec (mark < place (suc j)) → (place (suc j) ≤ mark → FirstPast place mark (suc left) (suc j) (countFromOf place mark (suc left) (suc j)))
+        → FirstPast place mark (suc (suc left)) j (suc (countFromOf place mark (suc left) (suc j)))
     go (yes l) r =
         let e : j + 2 - 2 ≡ j = omega arith in
-        rw (lt-yes l) (record { two = omega arith; within = omega arith; before = rw e h; after = rw e l })
-    go (no l) r = further (visited place mark (suc left) (suc j)) (r (omega arith))
+        rw (lt-ltb _ _ l) (record { least = omega arith; most = omega arith; before = rw e h; after = rw e l })
+    go (no l) r = further (countFromOf place mark (suc left) (suc j)) (r (omega arith))
       where
-        further : (c : ℕ) → Found place mark (suc left) (suc j) c → Found place mark (suc (suc left)) j (suc c)
+        further : (c : ℕ) → FirstPast place mark (suc left) (suc j) c → FirstPast place mark (suc (suc left)) j (suc c)
         further c w =
-            let e : j + suc c - 2 ≡ suc j + c - 2 = omega (arith, w .two) in
-            record { two = omega arith; within = omega arith; before = rw e (w .before); after = rw e (w .after) }
+            let e : j + suc c - 2 ≡ suc j + c - 2 = omega (arith, w .least) in
+            record { least = omega arith; most = omega arith; before = rw e (w .before); after = rw e (w .after) }
 
 -- ---- the year's places
 
@@ -52,7 +52,7 @@ start-le y k h = omega (arith, root-of-le y)
 
 -- how many midnights the walk to the mark m visits, and the day that it finds
 abbrev pub countOf : ℕ → ℕ → ℕ → ℕ
-countOf e y m = visited (placeOf e y) (m + lift) 8 (startOf y m)
+countOf e y m = countFromOf (placeOf e y) (m + lift) 8 (startOf y m)
 
 abbrev pub dayOf : ℕ → ℕ → ℕ → ℕ
 dayOf e y m = startOf y m + countOf e y m - 2
@@ -85,5 +85,5 @@ module _ (e : ℕ) (o : e ≤ epicycles) (y : ℕ) where
   unfolding startOf
   start-after m = omega (arith, place-within (startOf y m + 7), root-of-le y)
 
-  pub walk : (m : ℕ) → Found (placeOf e y) (m + lift) 8 (startOf y m) (countOf e y m)
-  walk m = found (placeOf e y) (m + lift) 7 (startOf y m) (start-before m) (start-after m)
+  pub walk : (m : ℕ) → FirstPast (placeOf e y) (m + lift) 8 (startOf y m) (countOf e y m)
+  walk m = first-past (placeOf e y) (m + lift) 7 (startOf y m) (start-before m) (start-after m)

@@ -3,10 +3,12 @@ use mathlib.Core.Path.{_≡_}
 use mathlib.Core.Bool.{false}
 use Prim.Native.Nat.{ℕ, _≤_}
 use native.Mathlib.Omega.{arith}
-use lib.IntN.{ℤ, pos, negℤ, natAbs, _+ℤ_}
+use lib.IntN.{ℤ, pos, negℤ, _+ℤ_}
 use lib.Signed.{ltZ, _≤ℤ_, _<ℤ_, ltZ-no}
 use Rattle.reasoning.proofs.Whole.{Is, is-pos, is-le, is-from}
-use Rattle.reasoning.proofs.Inside.{neither}
+use Rattle.reasoning.proofs.Answers.{both-no}
+use Rattle.reasoning.proofs.Indexed.{false-not}
+use Rattle.law.specs.Index.{yearIndex}
 use Rattle.law.specs.Document.{badYear, runOnPlace}
 use Rattle.motion.specs.Working.{lift, placeOf}
 use Rattle.motion.proofs.Bridge.{run-on-is}
@@ -24,19 +26,16 @@ pub record Holds (e : ℕ) (N m d : ℤ) : Type 0 where
 -- a year that document 01 does not refuse is one of them
 pub in-years : {N : ℤ} → badYear N ≡ false → InYears N
 in-years {N} h =
-    let n = neither (ltZ N (negℤ (pos 2_000))) (ltZ (pos 2_000) N) h in
-    record { least = ltZ-no (n .0); most = ltZ-no (n .1) }
+    let n = both-no (ltZ N (negℤ (pos 2_000))) (ltZ (pos 2_000) N) h in
+    record { least = ltZ-no (false-not (n .0)); most = ltZ-no (false-not (n .1)) }
 
--- its count from the least on, and the places by it
-abbrev pub yearOf : ℤ → ℕ
-yearOf N = natAbs (N +ℤ pos 2_000)
-
+-- its index, and the places by it
 module _ {N : ℤ} (i : InYears N) where
-  pub year-is : Is N (yearOf N) 2_000
+  pub year-is : Is N (yearIndex N) 2_000
   year-is = is-from 2_000 (i .least)
 
-  pub year-le : yearOf N ≤ 4_000
+  pub year-le : yearIndex N ≤ 4_000
   year-le = omega (arith, is-le year-is (is-pos 2_000) (i .most))
 
-  pub place-is : (e : ℕ) {d : ℤ} {j : ℕ} → Is d j 4 → Is (runOnPlace e N d) (placeOf e (yearOf N) j) lift
+  pub place-is : (e : ℕ) {d : ℤ} {j : ℕ} → Is d j 4 → Is (runOnPlace e N d) (placeOf e (yearIndex N) j) lift
   place-is e g = run-on-is year-is g e year-le

@@ -6,8 +6,8 @@ use lib.Dec.{leb, ltb}
 use lib.IntN.{pos, _-ℤ_}
 use Rattle.law.specs.Entry.{lastTangent, tangentEntry}
 use Rattle.law.specs.Round.{halfUp}
-use Rattle.law.specs.Answer.{Answer, value, refusing}
-use Rattle.law.specs.Document.{degree, circle, half, quarter, day, yearLength, dailyMotion, perigeeYearly, perigeeDaily, perigeeEpoch, dayEpoch, radius, sine, cosine, tangent, angle, offTable, TermValues}
+use Rattle.reasoning.specs.Answer.{Answer, value, refusing}
+use Rattle.law.specs.Document.{degree, circle, half, quarter, day, yearLength, dailyMotion, perigeeYearly, perigeeDaily, perigeeEpoch, dayEpoch, radius, sine, cosine, tangent, angle, offTable, YearValues, TermValues}
 
 -- ---- the year
 
@@ -24,6 +24,16 @@ rootFrom solstice = halfUp ((day - solstice % day) * dailyMotion) day
 
 unfoldable pub rootOf : ℕ → ℕ
 rootOf y = rootFrom (solsticeOf y)
+
+-- the year's four values; the mansion's epoch is two days before the day name's, and one is added: 27, taken by 28
+unfoldable pub yearOf : ℕ → YearValues
+yearOf y =
+    record {
+      solsticeDay = solsticeOf y / day % 60;
+      solsticeFraction = solsticeOf y % day;
+      dutyMansion = (solsticeOf y / day + 27) % 28;
+      yearRoot = rootOf y;
+    }
 
 -- ---- the equation: x is an arc from the perigee or the apogee up to a quarter circle, u one from the perigee up to a half
 
@@ -89,9 +99,9 @@ unfoldable pub startOf : ℕ → ℕ → ℕ
 startOf y mark = (mark + 4 * dailyMotion - rootOf y) / dailyMotion - 3
 
 -- the midnights visited from j on until the first place past the mark, with so many left
-unfoldable pub visited : (ℕ → ℕ) → ℕ → ℕ → ℕ → ℕ
-visited place mark zero j = zero
-visited place mark (suc left) j = cond (ltb mark (place j)) 1 (suc (visited place mark left (suc j)))
+unfoldable pub countFromOf : (ℕ → ℕ) → ℕ → ℕ → ℕ → ℕ
+countFromOf place mark zero j = zero
+countFromOf place mark (suc left) j = cond (ltb mark (place j)) 1 (suc (countFromOf place mark left (suc j)))
 
 -- the minute between the places of two midnights in a row
 abbrev pub minuteBetween : ℕ → ℕ → ℕ → ℕ
@@ -99,17 +109,17 @@ minuteBetween mark place next = 1_440 * (mark - place) / (next - place)
 
 -- what a walk finds: the night before the first one past the mark, the minute, and the midnights visited
 pub record Find : Type 0 where
-  pub night : ℕ
-  pub moment : ℕ
-  pub nights : ℕ
+  pub dayFound : ℕ
+  pub minuteFound : ℕ
+  pub countFound : ℕ
 
--- from j on with so many left, and so many seen before
+-- from j on with so many left, and so many counted before
 unfoldable pub findFrom : (ℕ → ℕ) → ℕ → ℕ → ℕ → ℕ → Find
-findFrom place mark left j seen =
+findFrom place mark left j count =
     record {
-      night = j + visited place mark left j - 2;
-      moment = minuteBetween mark (place (j + visited place mark left j - 2)) (place (suc (j + visited place mark left j - 2)));
-      nights = seen + visited place mark left j;
+      dayFound = j + countFromOf place mark left j - 2;
+      minuteFound = minuteBetween mark (place (j + countFromOf place mark left j - 2)) (place (suc (j + countFromOf place mark left j - 2)));
+      countFound = count + countFromOf place mark left j;
     }
 
 -- a term's search begins at the start itself, with eight left
@@ -119,4 +129,4 @@ findOf e y k = findFrom (placeOf e y) (markOf k + lift) 8 (startOf y (markOf k))
 -- and its day is counted as the document counts it
 unfoldable pub termOf : ℕ → ℕ → ℕ → TermValues
 termOf e y k =
-    record { dayOfTerm = pos (findOf e y k .night) -ℤ pos 4; minuteOfTerm = findOf e y k .moment; midnights = findOf e y k .nights }
+    record { dayOfTerm = pos (findOf e y k .dayFound) -ℤ pos 4; minuteOfTerm = findOf e y k .minuteFound; countOfTerm = findOf e y k .countFound }

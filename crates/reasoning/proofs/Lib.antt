@@ -1,6 +1,7 @@
-pub mod Choice
 pub mod Every
 pub mod Whole
 pub mod HeldFast
 pub mod ByHand
-pub mod Inside
+pub mod Indexed
+pub mod Answers
+pub mod InOrder

@@ -7,50 +7,50 @@ use native.Mathlib.Nat.{mod-eq-of-lt, mul-le-mul-right}
 use native.Mathlib.Omega.{arith}
 use Rattle.law.specs.Document.{circle, half, quarter, epicycles, tenMinutes, angle}
 use Rattle.motion.specs.Working.{farOf, added, taken}
-use Rattle.motion.proofs.Sway.{Sway, near-climbs, near-falls, far-rises, far-climbs, far-climbs-own}
+use Rattle.motion.proofs.QuarterChange.{Change, near-climbs, near-falls, far-rises, far-climbs, far-climbs-own}
 use Rattle.motion.proofs.AngleSlope.{equationOf}
 use Rattle.motion.proofs.Equation.{by-near, by-far, equation-0°, equation-180°, added-low, added-high, taken-low, taken-high}
 
 -- fall bounds how fast the equation falls on the far side
 abbrev Far : ℕ → ℕ → Type 0
-Far e fall = (x y : ℕ) → x ≤ y → y ≤ quarter → y ≤ x + 7 * tenMinutes → Sway fall 3_900_000 (y - x) (angle (farOf e x)) (angle (farOf e y))
+Far e fall = (x y : ℕ) → x ≤ y → y ≤ quarter → y ≤ x + 7 * tenMinutes → Change fall 3_900_000 (y - x) (angle (farOf e x)) (angle (farOf e y))
 
 -- from the anomaly a to b, n units on: what the equation, what is added less what is taken, gains and loses
-pub record Turns (e fall n a b : ℕ) : Type 0 where
-  pub up : Sway 36_600 7_800_000 n (added e a + taken e b) (added e b + taken e a)
-  pub down : Sway fall 10_400_000 n (added e b + taken e a) (added e a + taken e b)
+pub record RoundTheCircle (e fall n a b : ℕ) : Type 0 where
+  pub up : Change 36_600 7_800_000 n (added e a + taken e b) (added e b + taken e a)
+  pub down : Change fall 10_400_000 n (added e b + taken e a) (added e a + taken e b)
 
 module _ (e : ℕ) (o : e ≤ epicycles) (fall : ℕ) (c : 655 ≤ fall) (far : Far e fall) where
   -- from u to v, on one side of the quarter
   module _ (u v : ℕ) (l : u ≤ v) where
-    near-up : v ≤ quarter → Sway 36_600 3_900_000 (v - u) (equationOf e u) (equationOf e v)
+    near-up : v ≤ quarter → Change 36_600 3_900_000 (v - u) (equationOf e u) (equationOf e v)
     near-up q = omega (arith, near-climbs e o u v l q, by-near e u (omega arith), by-near e v q)
 
-    near-down : v ≤ quarter → Sway fall 1_300_000 (v - u) (equationOf e v) (equationOf e u)
+    near-down : v ≤ quarter → Change fall 1_300_000 (v - u) (equationOf e v) (equationOf e u)
     near-down q = omega (arith, near-falls e o u v l q, by-near e u (omega arith), by-near e v q, mul-le-mul-right (v - u) c)
 
     far-up : quarter ≤ u → v ≤ half → equationOf e v ≤ equationOf e u
     far-up p q = omega (arith, far-rises e o (half - v) (half - u) (omega arith) (omega arith), by-far e u p, by-far e v (omega arith))
 
-    far-down : quarter ≤ u → v ≤ half → v ≤ u + 7 * tenMinutes → Sway fall 3_900_000 (v - u) (equationOf e v) (equationOf e u)
+    far-down : quarter ≤ u → v ≤ half → v ≤ u + 7 * tenMinutes → Change fall 3_900_000 (v - u) (equationOf e v) (equationOf e u)
     far-down p q w =
         let i : half - u - (half - v) ≡ v - u = omega arith in
         omega (arith, rw i at (far (half - v) (half - u) (omega arith) (omega arith) (omega arith)), by-far e u p, by-far e v (omega arith))
 
   -- within the half circle
   module _ (u v : ℕ) (l : u ≤ v) (q : v ≤ half) where
-    half-circle-up : Sway 36_600 3_900_000 (v - u) (equationOf e u) (equationOf e v)
+    half-circle-up : Change 36_600 3_900_000 (v - u) (equationOf e u) (equationOf e v)
     half-circle-up = go (decLe v quarter) (decLe quarter u)
       where
-        go : Dec (v ≤ quarter) → Dec (quarter ≤ u) → Sway 36_600 3_900_000 (v - u) (equationOf e u) (equationOf e v)
+        go : Dec (v ≤ quarter) → Dec (quarter ≤ u) → Change 36_600 3_900_000 (v - u) (equationOf e u) (equationOf e v)
         go (yes a) _ = near-up u v l a
         go (no a) (yes b) = omega (arith, far-up u v l b q)
         go (no a) (no b) = omega (arith, near-up u quarter (omega arith) (omega arith), far-up quarter v (omega arith) (omega arith) q)
 
-    half-circle-down : v ≤ u + 7 * tenMinutes → Sway fall 5_200_000 (v - u) (equationOf e v) (equationOf e u)
+    half-circle-down : v ≤ u + 7 * tenMinutes → Change fall 5_200_000 (v - u) (equationOf e v) (equationOf e u)
     half-circle-down w = go (decLe v quarter) (decLe quarter u)
       where
-        go : Dec (v ≤ quarter) → Dec (quarter ≤ u) → Sway fall 5_200_000 (v - u) (equationOf e v) (equationOf e u)
+        go : Dec (v ≤ quarter) → Dec (quarter ≤ u) → Change fall 5_200_000 (v - u) (equationOf e v) (equationOf e u)
         go (yes a) _ = omega (arith, near-down u v l a)
         go (no a) (yes b) = omega (arith, far-down u v l b q w)
         go (no a) (no b) =
@@ -59,7 +59,7 @@ module _ (e : ℕ) (o : e ≤ epicycles) (fall : ℕ) (c : 655 ≤ fall) (far : 
 
   -- the four places of a and a + n in the circle
   module _ (a n : ℕ) (h : a < circle) (w : n ≤ 7 * tenMinutes) where
-    both-add : a + n < half → Turns e fall n a (a + n)
+    both-add : a + n < half → RoundTheCircle e fall n a (a + n)
     both-add p =
         let f = added-low e a (omega arith) in
         let g = added-low e (a + n) p in
@@ -71,7 +71,7 @@ module _ (e : ℕ) (o : e ≤ epicycles) (fall : ℕ) (c : 655 ≤ fall) (far : 
           down = omega (arith, rw s at (half-circle-down a (a + n) (omega arith) (omega arith) (omega arith)));
         }
 
-    past-half : a < half → half ≤ a + n → Turns e fall n a (a + n)
+    past-half : a < half → half ≤ a + n → RoundTheCircle e fall n a (a + n)
     past-half p q =
         let f = added-low e a p in
         let g = added-high e (a + n) q in
@@ -90,7 +90,7 @@ module _ (e : ℕ) (o : e ≤ epicycles) (fall : ℕ) (c : 655 ≤ fall) (far : 
               );
         }
 
-    both-take : half ≤ a → a + n < circle → Turns e fall n a (a + n)
+    both-take : half ≤ a → a + n < circle → RoundTheCircle e fall n a (a + n)
     both-take p q =
         let f = added-high e a p in
         let g = added-high e (a + n) (omega arith) in
@@ -102,7 +102,7 @@ module _ (e : ℕ) (o : e ≤ epicycles) (fall : ℕ) (c : 655 ≤ fall) (far : 
           down = omega (arith, rw s at (half-circle-down (circle - (a + n)) (circle - a) (omega arith) (omega arith) (omega arith)));
         }
 
-    past-circle : circle ≤ a + n → Turns e fall n a (a + n - circle)
+    past-circle : circle ≤ a + n → RoundTheCircle e fall n a (a + n - circle)
     past-circle q =
         let f = added-high e a (omega arith) in
         let g = added-low e (a + n - circle) (omega arith) in
@@ -119,10 +119,10 @@ module _ (e : ℕ) (o : e ≤ epicycles) (fall : ℕ) (c : 655 ≤ fall) (far : 
           down = omega arith;
         }
 
-    turns : Turns e fall n a ((a + n) % circle)
+    turns : RoundTheCircle e fall n a ((a + n) % circle)
     turns = go (decLt (a + n) half) (decLt a half) (decLt (a + n) circle)
       where
-        go : Dec (a + n < half) → Dec (a < half) → Dec (a + n < circle) → Turns e fall n a ((a + n) % circle)
+        go : Dec (a + n < half) → Dec (a < half) → Dec (a + n < circle) → RoundTheCircle e fall n a ((a + n) % circle)
         go (yes p) _ _ = rw (mod-eq-of-lt {n = a + n} {m = circle} (omega arith)) (both-add p)
         go (no p) (yes q) _ = rw (mod-eq-of-lt {n = a + n} {m = circle} (omega arith)) (past-half q (omega arith))
         go (no p) (no q) (yes r) = rw (mod-eq-of-lt {n = a + n} {m = circle} r) (both-take (omega arith) r)
@@ -134,12 +134,8 @@ module _ (e : ℕ) (o : e ≤ epicycles) (fall : ℕ) (c : 655 ≤ fall) (far : 
 any-far : (e : ℕ) → e ≤ epicycles → Far e 36_600
 any-far e o x y l q _ = far-climbs e o x y l q
 
-pub turns-any : (e : ℕ) → e ≤ epicycles → (a n : ℕ) → a < circle → n ≤ 7 * tenMinutes → Turns e 36_600 n a ((a + n) % circle)
+pub turns-any : (e : ℕ) → e ≤ epicycles → (a n : ℕ) → a < circle → n ≤ 7 * tenMinutes → RoundTheCircle e 36_600 n a ((a + n) % circle)
 turns-any e o = turns e o 36_600 (omega arith) (any-far e o)
 
-pub turns-own : (a n : ℕ) → a < circle → n ≤ 7 * tenMinutes → Turns epicycles 35_300 n a ((a + n) % circle)
+pub turns-own : (a n : ℕ) → a < circle → n ≤ 7 * tenMinutes → RoundTheCircle epicycles 35_300 n a ((a + n) % circle)
 turns-own = turns epicycles (omega arith) 35_300 (omega arith) far-climbs-own
-
--- the equation by the distance from the perigee
-pub from-perigee : (e : ℕ) → e ≤ epicycles → (u : ℕ) → u ≤ half → Sway 36_600 3_900_000 u 0 (equationOf e u)
-from-perigee e o u q = omega (arith, half-circle-up e o 36_600 (omega arith) (any-far e o) 0 u (omega arith) q, equation-0° e o)

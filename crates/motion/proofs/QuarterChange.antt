@@ -20,13 +20,13 @@ use Rattle.motion.proofs.AngleSlope.{steepest, angle-rises, angle-withi
 -- ---- the height and the base
 
 -- from a to b over n units: never less, and at most rate more for each 10^12 units, and a slip for the roundings
-record Grown (rate n a b : ℕ) : Type 0 where
+record LegClimbs (rate n a b : ℕ) : Type 0 where
   rises : a ≤ b
   most : 1_000_000_000_000 * (b - a) ≤ rate * n + 1_017_920_800_000
 
 module _ (e : ℕ) (o : e ≤ epicycles) where
   -- s and t are two sines; a step of d for each 10′ is, of the epicycles, at most this rate
-  grown : (rate d n s t : ℕ) → epicycles * d ≤ 360_000 * rate → Climbs d n s t → Grown rate n (halfUp (e * s) radius) (halfUp (e * t) radius)
+  grown : (rate d n s t : ℕ) → epicycles * d ≤ 360_000 * rate → Climbs d n s t → LegClimbs rate n (halfUp (e * s) radius) (halfUp (e * t) radius)
   unfolding halfUp
   grown rate d n s t c w =
       record {
@@ -35,12 +35,12 @@ module _ (e : ℕ) (o : e ≤ epicycles) where
       }
 
   height-grows : {p d : ℕ} (s : Steps sineEntry p lastSine d) (rate : ℕ) → epicycles * d ≤ 360_000 * rate
-      → (x y : ℕ) → p * tenMinutes ≤ x → x ≤ y → y ≤ quarter → Grown rate (y - x) (heightOf e x) (heightOf e y)
+      → (x y : ℕ) → p * tenMinutes ≤ x → x ≤ y → y ≤ quarter → LegClimbs rate (y - x) (heightOf e x) (heightOf e y)
   unfolding heightOf
   height-grows {p} {d} s rate c x y h l g = grown rate d (y - x) (sine x) (sine y) c (sine-climbs s x y h l g)
 
   base-grows : {p d : ℕ} (s : Steps sineEntry p lastSine d) (rate : ℕ) → epicycles * d ≤ 360_000 * rate
-      → (x y : ℕ) → x ≤ y → y + p * tenMinutes ≤ quarter → Grown rate (y - x) (baseOf e y) (baseOf e x)
+      → (x y : ℕ) → x ≤ y → y + p * tenMinutes ≤ quarter → LegClimbs rate (y - x) (baseOf e y) (baseOf e x)
   base-grows s rate c x y l h =
       let i : quarter - x - (quarter - y) ≡ y - x = omega arith in
       rw (base-is e x, base-is e y) (rw i at (height-grows s rate c (quarter - y) (quarter - x) (omega arith) (omega arith) (omega arith)))
@@ -48,7 +48,7 @@ module _ (e : ℕ) (o : e ≤ epicycles) where
 -- ---- the tangent and its angle
 
 -- b is above a by at most so many millionths for each of n units, and a slip for the roundings
-pub record Sway (rate slip n a b : ℕ) : Type 0 where
+pub record Change (rate slip n a b : ℕ) : Type 0 where
   pub most : 1_000_000 * b ≤ 1_000_000 * (a + slip) + rate * n
 
 -- the angle of the height g over the side w is above that of h over l by little, where g is little above h, and l above w
@@ -78,13 +78,13 @@ near-apart e o x y rise k most p q f i j =
     (omega arith) (omega arith) (omega arith) f (omega arith) j
 
 module _ (e : ℕ) (o : e ≤ epicycles) (x y : ℕ) (l : x ≤ y) (q : y ≤ quarter) where
-  height-all : Grown 14_481 (y - x) (heightOf e x) (heightOf e y)
+  height-all : LegClimbs 14_481 (y - x) (heightOf e x) (heightOf e y)
   height-all = height-grows e o all-steps 14_481 (omega arith) x y (omega arith) l q
 
-  base-all : Grown 14_481 (y - x) (baseOf e y) (baseOf e x)
+  base-all : LegClimbs 14_481 (y - x) (baseOf e y) (baseOf e x)
   base-all = base-grows e o all-steps 14_481 (omega arith) x y l (omega arith)
 
-  pub near-climbs : Sway 36_600 3_900_000 (y - x) (angle (nearOf e x)) (angle (nearOf e y))
+  pub near-climbs : Change 36_600 3_900_000 (y - x) (angle (nearOf e x)) (angle (nearOf e y))
   near-climbs =
       let h = height-all in
       let b = base-all in
@@ -93,7 +93,7 @@ module _ (e : ℕ) (o : e ≤ epicycles) (x y : ℕ) (l : x ≤ y) (q : y ≤ qu
         near-apart e o x y (heightOf e y - heightOf e x) 0 (nearOf e x) (omega arith) q (omega arith) (omega arith) (omega arith),
       )
 
-  pub near-falls : Sway 655 1_300_000 (y - x) (angle (nearOf e y)) (angle (nearOf e x))
+  pub near-falls : Change 655 1_300_000 (y - x) (angle (nearOf e y)) (angle (nearOf e x))
   near-falls =
       let h = height-all in
       let b = base-all in
@@ -126,13 +126,13 @@ module _ (e : ℕ) (o : e ≤ epicycles) (x y : ℕ) (l : x ≤ y) (q : y ≤ qu
       angle-apart (heightOf e x) (heightOf e y) (radius + baseOf e x) (radius + baseOf e y)
       (heightOf e y - heightOf e x) (baseOf e x - baseOf e y) most least (omega arith) p g (omega arith) (omega arith) f
 
-  pub far-climbs : Sway 36_600 3_900_000 (y - x) (angle (farOf e x)) (angle (farOf e y))
+  pub far-climbs : Change 36_600 3_900_000 (y - x) (angle (farOf e x)) (angle (farOf e y))
   far-climbs =
       let h = height-all in
       let b = base-all in
       omega (arith, far-apart mostTangent radius (far-le e o x (omega arith)) (omega arith) (omega arith))
 
-  far-climbs-90 : 90 * tenMinutes ≤ x → Sway 35_300 3_900_000 (y - x) (angle (farOf e x)) (angle (farOf e y))
+  far-climbs-90 : 90 * tenMinutes ≤ x → Change 35_300 3_900_000 (y - x) (angle (farOf e x)) (angle (farOf e y))
   far-climbs-90 g =
       let h = height-grows e o steps-from-90 13_982 (omega arith) x y g l q in
       let b = base-all in
@@ -152,7 +152,7 @@ module _ (x y : ℕ) (l : x ≤ y) where
   own = omega arith
 
   far-climbs-97 : y ≤ 97 * tenMinutes
-      → Sway 35_300 3_900_000 (y - x) (angle (farOf epicycles x)) (angle (farOf epicycles y))
+      → Change 35_300 3_900_000 (y - x) (angle (farOf epicycles x)) (angle (farOf epicycles y))
   far-climbs-97 q =
       let h = height-all epicycles own x y l (omega arith) in
       let b = base-grows epicycles own steps-from-443 4_012 (omega arith) x y l (omega arith) in
@@ -165,10 +165,10 @@ module _ (x y : ℕ) (l : x ≤ y) where
 
   -- to an arc within 70′
   pub far-climbs-own : y ≤ quarter → y ≤ x + 7 * tenMinutes
-      → Sway 35_300 3_900_000 (y - x) (angle (farOf epicycles x)) (angle (farOf epicycles y))
+      → Change 35_300 3_900_000 (y - x) (angle (farOf epicycles x)) (angle (farOf epicycles y))
   far-climbs-own q w = go (decLe (90 * tenMinutes) x)
     where
       go : Dec (90 * tenMinutes ≤ x)
-          → Sway 35_300 3_900_000 (y - x) (angle (farOf epicycles x)) (angle (farOf epicycles y))
+          → Change 35_300 3_900_000 (y - x) (angle (farOf epicycles x)) (angle (farOf epicycles y))
       go (yes p) = far-climbs-90 epicycles own x y l q p
       go (no p) = far-climbs-97 (omega arith)

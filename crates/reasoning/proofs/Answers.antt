@@ -1,9 +1,9 @@
 -- What an answer tells of the test behind it: a value was not refused; a refusal was, and with that number. Assumes nothing.
 use mathlib.Core.Path.{_≡_, refl, ap}
-use mathlib.Core.Bool.{Bool, true, false}
+use mathlib.Core.Bool.{Bool, true, false, _||_}
 use Prim.Native.Nat.{ℕ}
 use native.Mathlib.Omega.{arith}
-use Rattle.law.specs.Answer.{Answer, value, refused, refusing}
+use Rattle.reasoning.specs.Answer.{Answer, value, refused, refusing}
 
 -- a value where the test may refuse with n, and x follows
 pub record Passed {A : Type 0} (b : Bool) (v x : A) : Type 0 where
@@ -27,6 +27,11 @@ same-value e = cc
 
 pub never : {A : Type 0} {x : A} {k : ℕ} → refused k ≡ value x → ⊥
 never e = let z : _≡_ {A = ℕ} 0 1 = cc in omega arith
+
+-- neither of two tests held
+pub both-no : (p q : Bool) → (p || q) ≡ false → (p ≡ false) × (q ≡ false)
+both-no true q h = absurd (let z : _≡_ {A = ℕ} 0 1 = cc in omega arith)
+both-no false q h = (refl, h)
 
 -- three tests in their order, and what follows
 abbrev pub after : {A : Type 0} → Bool → Bool → Bool → ℕ → ℕ → ℕ → A → Answer A
