@@ -1,7 +1,7 @@
 -- The public function's promise holds its answer fast. Assumes nothing.
 use mathlib.Core.Path.{_≡_, refl, ap}
 use Rattle.reasoning.proofs.HeldFast.{Held, by-facts, one-said}
-use Rattle.law.specs.Answer.{Answer, value, refused}
+use Rattle.reasoning.specs.Answer.{Answer, value, refused}
 use Rattle.law.specs.Document.{LocalValues}
 use Rattle.units.proofs.HeldFast.{refusalOf, refusal-back}
 use Rattle.local.specs.declared.LocalAnswer.{LocalAnswer}

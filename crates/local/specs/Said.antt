@@ -1,5 +1,5 @@
 -- What this crate's answers say, in document 01's numbers. Assumes nothing.
-use Rattle.law.specs.Answer.{Answer, value, refused}
+use Rattle.reasoning.specs.Answer.{Answer, value, refused}
 use Rattle.law.specs.Document.{LocalValues}
 use Rattle.units.specs.Said.{numberOf}
 use Rattle.local.specs.declared.LocalAnswer.{LocalAnswer}

@@ -2,6 +2,7 @@
 // Inside, time is in clock seconds from the midnight of day -5 on, the first day that a place can reach:
 // so none is below 0. No public function has a `requires`.
 use units::ArcSeconds;
+use units::ClockSeconds;
 use units::Number;
 use units::Refusal;
 ghost use mathlib.Core.Path.{_≡_};
@@ -34,12 +35,13 @@ fn seconds_at(j: u64, minute: u64) -> u64
 }
 
 // East is later, west earlier: by half a day at most.
-fn shifted(here: u64, clock: i64) -> u64
-    requires { ⌜ (86_400 ≤ here) × (here ≤ 40_000_000) × (natAbs clock ≤ 43_200) ⌝ }
-    ensures { λ r. ⌜ (pos r ≡ pos here +ℤ clock) × (r ≤ 50_000_000) ⌝ }
+fn shifted(here: u64, clock: ClockSeconds) -> u64
+    requires { ⌜ (86_400 ≤ here) × (here ≤ 40_000_000) × (natAbs (clock .0) ≤ 43_200) ⌝ }
+    ensures { λ r. ⌜ (pos r ≡ pos here +ℤ clock .0) × (r ≤ 50_000_000) ⌝ }
 {
-    let apart = units::size(clock);
-    if clock < 0 {
+    let seconds = clock.seconds();
+    let apart = units::size(seconds);
+    if seconds < 0 {
         return here - apart;
     }
     here + apart
@@ -61,8 +63,8 @@ pub fn local_time(day: i64, minute: u64, longitude: ArcSeconds) -> LocalAnswer
     if minute > 1_439 {
         return LocalAnswer::Refused(Refusal::DayOrMinuteOutside);
     }
+    let clock = longitude.to_clock();
     let arc = longitude.seconds();
-    let clock = longitude.to_clock().seconds();
     if arc < -648_000 || arc > 648_000 {
         return LocalAnswer::Refused(Refusal::LongitudeBeyond);
     }

@@ -7,15 +7,15 @@ use lib.IntN.{ℤ}
 use mir.Syntax.{w64}
 use mir.Val.{SFits}
 use mir.Facts.{toZ-ofZ}
-use Rattle.reasoning.proofs.Inside.{Inside}
-use Rattle.law.specs.Answer.{Answer}
-use Rattle.law.specs.Document.{badYear, badDay}
-use Rattle.units.specs.Edges.{yearIndex, dayIndex}
+use Rattle.reasoning.proofs.Indexed.{Indexed}
+use Rattle.reasoning.specs.Answer.{Answer}
+use Rattle.law.specs.Document.{badYear}
+use Rattle.units.specs.IndexAnswers.{yearIndexAnswer, dayIndexAnswer}
 use Rattle.units.specs.declared.answer.Number.{Number}
 use Rattle.units.specs.declared.answer.Number.the-variants.{Is, Refused}
 use Rattle.units.specs.declared.refusal.Refusal.{Refusal}
 use Rattle.units.specs.Said.{saidNumber}
-use Rattle.units.proofs.Edges.{year-in, year-out, day-in, day-out}
+use Rattle.units.proofs.IndexAnswers.{year-in, year-out, day-in}
 use Rattle.units.proofs.Machine.{read}
 
 -- an answer r to the reading of z, which turned out to be s, is the answer to z itself
@@ -24,14 +24,11 @@ pub told : {R : Type 0} {A : Type 0} (said : R → Answer A) (law : ℤ → Answ
 told said law f e i = sym (ap said i) ∙ (e ∙ ap law (toZ-ofZ f))
 
 module _ {z : ℤ} {r : Number} (f : SFits w64 z) where
-  pub year-known : {y : ℕ} → saidNumber r ≡ yearIndex (read w64 z) → r ≡ Is y → Inside 2_000 2_000 z y
-  year-known e i = year-in z (told saidNumber yearIndex f e i)
+  pub year-known : {y : ℕ} → saidNumber r ≡ yearIndexAnswer (read w64 z) → r ≡ Is y → Indexed 2_000 2_000 z y
+  year-known e i = year-in z (told saidNumber yearIndexAnswer f e i)
 
-  pub year-unknown : {q : Refusal} → saidNumber r ≡ yearIndex (read w64 z) → r ≡ Refused q → badYear z ≡ true
-  year-unknown e i = year-out z (told saidNumber yearIndex f e i)
+  pub year-unknown : {q : Refusal} → saidNumber r ≡ yearIndexAnswer (read w64 z) → r ≡ Refused q → badYear z ≡ true
+  year-unknown e i = year-out z (told saidNumber yearIndexAnswer f e i)
 
-  pub day-known : {j : ℕ} → saidNumber r ≡ dayIndex (read w64 z) → r ≡ Is j → Inside 4 370 z j
-  day-known e i = day-in z (told saidNumber dayIndex f e i)
-
-  pub day-unknown : {q : Refusal} → saidNumber r ≡ dayIndex (read w64 z) → r ≡ Refused q → badDay z ≡ true
-  day-unknown e i = day-out z (told saidNumber dayIndex f e i)
+  pub day-known : {j : ℕ} → saidNumber r ≡ dayIndexAnswer (read w64 z) → r ≡ Is j → Indexed 4 370 z j
+  day-known e i = day-in z (told saidNumber dayIndexAnswer f e i)

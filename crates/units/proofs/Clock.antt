@@ -6,7 +6,7 @@ use lib.IntN.{pos, negsuc, negℤ}
 use Rattle.law.specs.Round.{halfUp, halfUpOnSize}
 use Rattle.law.specs.Document.{clockOfArc}
 
-fifteenth : (n : ℕ) → halfUp n 15 ≡ (n + 7) / 15
+pub fifteenth : (n : ℕ) → halfUp n 15 ≡ (n + 7) / 15
 unfolding halfUp
 fifteenth n = omega arith
 

@@ -1,5 +1,5 @@
 pub mod Clock
-pub mod Edges
+pub mod IndexAnswers
 pub mod Machine
 pub mod HeldFast
 pub mod Callers

@@ -1,17 +1,18 @@
 -- Signed machine numbers of any width: a number from -lo to hi that both tests passed, raised by lo and cast; a count lowered
 -- again; and the size of a number below 0. Assumes nothing.
 use mathlib.Core.Path.{_≡_, refl, ap, sym, _∙_, subst}
-use mathlib.Core.Bool.{Bool, true, false, not, _||_}
+use mathlib.Core.Bool.{Bool, true, false, _||_}
 use Prim.Native.Nat.{ℕ, suc, _+_, _^_, _≤_, _<_}
 use native.Mathlib.Omega.{arith}
 use lib.Dec.{T}
 use lib.IntN.{ℤ, pos, negsuc, negℤ, natAbs, _+ℤ_, _-ℤ_}
-use lib.Signed.{ltZ, nonNeg, ltZ-no}
+use lib.Signed.{ltZ, nonNeg}
 use mir.Syntax.{Width}
 use mir.Val.{Fits, SFits, hbits, bits, toZ, ofZ}
 use mir.Facts.{toZ-ofZ, toZ-pos}
 use borrow.Author.Tests.{ltb-true}
-use Rattle.reasoning.proofs.Whole.{Is, up, down, is-pos, is-neg, is-add, is-minus, is-le, is-from, same}
+use Rattle.reasoning.proofs.Indexed.{indexed}
+use Rattle.reasoning.proofs.Whole.{Is, up, down, is-pos, is-neg, is-add, is-minus, same}
 
 -- ---- what a machine number holds, read as one number less another
 
@@ -39,24 +40,21 @@ is-wide w {n} h = subst (λ (z : ℤ). Is z n 0) (sym (toZ-pos w h)) (is-pos n)
 -- ---- a number that both tests passed
 
 -- what the sum asks, what the cast to w′ asks, and what comes of it
-pub record Inside (w w′ : Width) (lo hi : ℕ) (n : ℤ) : Type 0 where
+pub record Raised (w w′ : Width) (lo hi : ℕ) (n : ℤ) : Type 0 where
   pub sum : SFits w (read w n +ℤ pos lo)
   pub cast : T (nonNeg (read w (read w n +ℤ pos lo))) × Fits w′ (natAbs (read w (read w n +ℤ pos lo)))
-  pub raised : read w (read w n +ℤ pos lo) ≡ n +ℤ pos lo
-  pub told : (ltZ n (negℤ (pos lo)) || ltZ (pos hi) n) ≡ false
+  pub is : read w (read w n +ℤ pos lo) ≡ n +ℤ pos lo
+  pub test : (ltZ n (negℤ (pos lo)) || ltZ (pos hi) n) ≡ false
 
-false-not : {b : Bool} → b ≡ false → T (not b)
-false-not e = subst (λ (b : Bool). T (not b)) (sym e) tt
-
-pub inside : (w w′ : Width) (lo hi : ℕ) {n : ℤ} → lo + hi < 2 ^ hbits w → lo + hi < 2 ^ bits w′ → SFits w n
-    → ltZ (read w n) (negℤ (pos lo)) ≡ false → ltZ (pos hi) (read w n) ≡ false → Inside w w′ lo hi n
-inside w w′ lo hi {n} small room f p q =
+pub raised : (w w′ : Width) (lo hi : ℕ) {n : ℤ} → lo + hi < 2 ^ hbits w → lo + hi < 2 ^ bits w′ → SFits w n
+    → ltZ (read w n) (negℤ (pos lo)) ≡ false → ltZ (pos hi) (read w n) ≡ false → Raised w w′ lo hi n
+raised w w′ lo hi {n} small room f p q =
     let back = toZ-ofZ f in
     let a : ltZ n (negℤ (pos lo)) ≡ false = subst (λ (z : ℤ). ltZ z (negℤ (pos lo)) ≡ false) back p in
     let b : ltZ (pos hi) n ≡ false = subst (λ (z : ℤ). ltZ (pos hi) z ≡ false) back q in
-    let i : Is n (natAbs (n +ℤ pos lo)) lo = is-from lo (ltZ-no (false-not a)) in
-    let u : natAbs (n +ℤ pos lo) + 0 ≤ hi + lo = is-le i (is-pos hi) (ltZ-no (false-not b)) in
-    let t = is-add i (is-pos lo) in
+    let passed : (ltZ n (negℤ (pos lo)) || ltZ (pos hi) n) ≡ false = rw (a, b) refl in
+    let i = indexed lo hi n (natAbs (n +ℤ pos lo)) passed refl in
+    let t = is-add (i .is) (is-pos lo) in
     let s = subst (λ (z : ℤ). SFits w (z +ℤ pos lo)) (sym back) (sfits-is w t (omega arith) (omega arith)) in
     let e : read w (read w n +ℤ pos lo) ≡ n +ℤ pos lo = toZ-ofZ s ∙ ap (λ (z : ℤ). z +ℤ pos lo) back in
     record {
@@ -65,8 +63,8 @@ inside w w′ lo hi {n} small room f p q =
         subst (λ (z : ℤ). T (nonNeg z)) (sym e) (nonneg-is t (omega arith)),
         subst (λ (z : ℤ). Fits w′ (natAbs z)) (sym e) (record { fits = omega arith }),
       );
-      raised = e;
-      told = rw (a, b) refl;
+      is = e;
+      test = passed;
     }
 
 -- ---- a number that a test held back

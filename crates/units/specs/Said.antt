@@ -1,7 +1,7 @@
 -- What this crate's answers say, in document 01's numbers. Assumes nothing.
 use Prim.Native.Nat.{ℕ}
 use lib.IntN.{ℤ}
-use Rattle.law.specs.Answer.{Answer, value, refused}
+use Rattle.reasoning.specs.Answer.{Answer, value, refused}
 use Rattle.units.specs.declared.refusal.Refusal.{Refusal}
 use Rattle.units.specs.declared.refusal.Refusal.the-variants.{YearOutside, DayOrMinuteOutside, TermAbove, LongitudeBeyond, TangentAbove, TooShort, RecordCutOff, KindUnknown, FieldOutside, OutOfTurn, NotAYear, YearAbsent}
 use Rattle.units.specs.declared.answer.Number.{Number}

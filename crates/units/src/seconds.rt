@@ -1,6 +1,7 @@
 // Seconds of arc and seconds of clock, counted apart: the fields are private, so only the
 // conversion named here goes from one to the other.
-use crate::edge::size;
+use crate::arithmetic::half_up;
+use crate::arithmetic::size;
 ghost use mathlib.Core.Path.{_≡_};
 ghost use Rattle.law.specs.Document.{clockOfArc};
 
@@ -18,7 +19,7 @@ impl ArcSeconds {
     pub fn seconds(self) -> i64
         ensures { λ r. ⌜ r ≡ self .0 ⌝ }
     {
-        self.0
+        self.0 // of arc
     }
 
     // Fifteen make one clock second, half or more up on the size.
@@ -26,7 +27,7 @@ impl ArcSeconds {
         ensures { λ r. ⌜ r .0 ≡ clockOfArc (self .0) ⌝ }
     {
         let arc = self.0;
-        let clock = ((size(arc) + 7) / 15) as i64;
+        let clock = half_up(size(arc), 15) as i64;
         if arc < 0 {
             return ClockSeconds(-clock);
         }
@@ -35,15 +36,9 @@ impl ArcSeconds {
 }
 
 impl ClockSeconds {
-    pub fn of(seconds: i64) -> ClockSeconds
-        ensures { λ r. ⌜ r .0 ≡ seconds ⌝ }
-    {
-        ClockSeconds(seconds)
-    }
-
     pub fn seconds(self) -> i64
         ensures { λ r. ⌜ r ≡ self .0 ⌝ }
     {
-        self.0
+        self.0 // of clock
     }
 }

@@ -9,53 +9,53 @@ use mir.Syntax.{w64}
 use mir.Val.{SFits}
 use mir.Facts.{toZ-ofZ}
 use borrow.Author.Needs.{needs, sfits-of}
-use Rattle.reasoning.proofs.Inside.{Inside}
+use Rattle.reasoning.proofs.Indexed.{Indexed}
 use Rattle.law.specs.Document.{clockOfArc, badLongitude}
-use Rattle.units.specs.Edges.{dayIndex}
+use Rattle.units.specs.IndexAnswers.{dayIndexAnswer}
 use Rattle.units.specs.Said.{saidNumber}
 use Rattle.units.proofs.Callers.{told, day-known}
-use Rattle.units.proofs.Machine.{read, inside, below, above}
+use Rattle.units.proofs.Machine.{raised, below, above}
 use Rattle.local.proofs.LocalTime.{half-a-day, local-bad-day, local-bad-minute, local-bad-longitude, local-is}
 use Rattle.local.proofs.local_time.Statement.{statement}
 use Rattle.local.proofs.local_time.Tie as tie
 
 -- ---- the day
 
-day-inside : (c : tie.After-j) → Inside 4 370 (c .before .before .before .args .day) (c .j .given .0 .0)
-day-inside c = day-known (c .before .before .before .fits .day) (c .before .before .day-index .ensures) (c .j .given .1)
+day-indexed : (c : tie.After-j) → Indexed 4 370 (c .before .before .before .args .day) (c .j .given .0 .0)
+day-indexed c = day-known (c .before .before .before .fits .day) (c .before .before .day-index .ensures) (c .j .given .1)
 
 -- ---- the longitude: what its arc and clock are, and what the two tests tell of it
 
-abbrev start : tie.After-seconds2 → tie.Start
-start c = c .before .before .before .before .before .before .before .before
+abbrev start : tie.After-seconds → tie.Start
+start c = c .before .before .before .before .before .before .before
 
--- the arc and the clock as they stand in their locals
-arc-is : (c : tie.After-seconds2) → c .before .before .seconds .result ≡ start c .args .longitude .0
-arc-is c = c .before .before .seconds .ensures
+-- the arc as it stands in its local, and the clock
+arc-is : (c : tie.After-seconds) → c .seconds .result ≡ start c .args .longitude .0
+arc-is c = c .seconds .ensures
 
-arc-fits : (c : tie.After-seconds2) → SFits w64 (c .before .before .seconds .result)
-arc-fits c = sfits-of (c .before .before .seconds .ok)
+arc-fits : (c : tie.After-seconds) → SFits w64 (c .seconds .result)
+arc-fits c = sfits-of (c .seconds .ok)
 
-clock-is : (c : tie.After-seconds2) → read w64 (c .seconds2 .result) ≡ clockOfArc (start c .args .longitude .0)
-clock-is c = toZ-ofZ (sfits-of (c .seconds2 .ok)) ∙ (c .seconds2 .ensures ∙ c .before .to-clock .ensures)
+clock-is : (c : tie.After-seconds) → c .before .to-clock .result .0 ≡ clockOfArc (start c .args .longitude .0)
+clock-is c = c .before .to-clock .ensures
 
 beyond : (c : tie.Joined2) → badLongitude (start (c .before) .args .longitude .0) ≡ true
 beyond c =
-    let held : badLongitude (c .before .before .before .seconds .result) ≡ true =
+    let held : badLongitude (c .before .seconds .result) ≡ true =
     ⊎-elim (λ w. below w64 648_000 648_000 (arc-fits (c .before)) (w .taken)) (λ w. above w64 648_000 648_000 (arc-fits (c .before)) (w .1 .taken)) (c .if2 .came) in
     subst (λ z. badLongitude z ≡ true) (arc-is (c .before)) held
 
 within : (c : tie.Else3) → badLongitude (start (c .before .before) .args .longitude .0) ≡ false
 within c =
-    let i = inside w64 w64 648_000 648_000 (omega arith) (omega arith) (arc-fits (c .before .before)) (c .before .if2 .left) (c .if3 .left) in
-    subst (λ z. badLongitude z ≡ false) (arc-is (c .before .before)) (i .told)
+    let i = raised w64 w64 648_000 648_000 (omega arith) (omega arith) (arc-fits (c .before .before)) (c .before .if2 .left) (c .if3 .left) in
+    subst (λ z. badLongitude z ≡ false) (arc-is (c .before .before)) (i .test)
 
 -- the day and the minute before the longitude was looked at
-here : (c : tie.After-seconds2) → Inside 4 370 (start c .args .day) (c .before .before .before .before .before .j .given .0 .0)
-here c = day-inside (c .before .before .before .before .before)
+here : (c : tie.After-seconds) → Indexed 4 370 (start c .args .day) (c .before .before .before .before .j .given .0 .0)
+here c = day-indexed (c .before .before .before .before)
 
-minute-le : (c : tie.After-seconds2) → start c .args .minute ≤ 1_439
-minute-le c = c .before .before .before .if1 .left
+minute-le : (c : tie.After-seconds) → start c .args .minute ≤ 1_439
+minute-le c = c .before .before .if1 .left
 
 -- ---- what is left
 
@@ -72,21 +72,18 @@ returns : tie.Need-returns
 returns c =
     let s = c .before .before .before in
     local-bad-day (s .args .day) (s .args .minute) (s .args .longitude .0)
-    (told saidNumber dayIndex (s .fits .day) (c .before .before .day-index .ensures) (c .enum-told .given .1))
+    (told saidNumber dayIndexAnswer (s .fits .day) (c .before .before .day-index .ensures) (c .enum-told .given .1))
 
 returns-2 : tie.Need-returns-2
 returns-2 c =
     let s = c .before .before .before .before .before in
-    local-bad-minute (s .args .day) (s .args .minute) (s .args .longitude .0) (day-inside (c .before .before)) (c .if1 .taken)
+    local-bad-minute (s .args .day) (s .args .minute) (s .args .longitude .0) (day-indexed (c .before .before)) (c .if1 .taken)
 
 seconds-requires : tie.Need-seconds-requires
 seconds-requires c κs = search needs
 
 to-clock-requires : tie.Need-to-clock-requires
 to-clock-requires c κs = search needs
-
-seconds-requires-2 : tie.Need-seconds-requires-2
-seconds-requires-2 c κs = search needs
 
 returns-3 : tie.Need-returns-3
 returns-3 c =
@@ -125,9 +122,8 @@ local-time-spec =
     enum-told
     returns
     returns-2
-    seconds-requires
     to-clock-requires
-    seconds-requires-2
+    seconds-requires
     returns-3
     seconds-at-requires
     shifted-requires

@@ -1,13 +1,13 @@
 -- The quotient, and one more where what it leaves is half or more. Assumes nothing.
-use mathlib.Core.Path.{_≡_, sym}
-use Prim.Native.Nat.{ℕ, _+_, _*_, _<_}
+use mathlib.Core.Path.{sym}
+use Prim.Native.Nat.{_+_, _*_}
 use native.Mathlib.Nat.{mod-lt, div-zero}
 use native.Mathlib.Omega.{arith}
 use borrow.Author.Needs.{needs}
 use Rattle.law.specs.Round.{halfUp}
-use Rattle.units.proofs.round.Rounds.{half-up-down, half-up-more, more-fits}
-use Rattle.units.proofs.round.half_up.Statement.{statement}
-use Rattle.units.proofs.round.half_up.Tie as tie
+use Rattle.units.proofs.arithmetic.Rounds.{half-up-down, half-up-more, more-fits}
+use Rattle.units.proofs.arithmetic.half_up.Statement.{statement}
+use Rattle.units.proofs.arithmetic.half_up.Tie as tie
 
 returns : tie.Need-returns
 unfolding halfUp

@@ -5,8 +5,8 @@ use lib.IntN.{natAbs}
 use mir.Syntax.{w64}
 use borrow.Author.Needs.{needs}
 use Rattle.units.proofs.Machine.{Negative, negative, Positive, positive}
-use Rattle.units.proofs.edge.size.Statement.{statement}
-use Rattle.units.proofs.edge.size.Tie as tie
+use Rattle.units.proofs.arithmetic.size.Statement.{statement}
+use Rattle.units.proofs.arithmetic.size.Tie as tie
 
 below : (c : tie.Then1) → Negative w64 w64 (c .before .args .z)
 below c = negative w64 w64 (omega arith) (c .before .fits .z) (c .if1 .taken)
