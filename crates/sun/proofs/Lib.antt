@@ -1,3 +1,3 @@
 pub mod HeldFast
-pub mod Filling
+pub mod ListFilled
 pub mod LentList

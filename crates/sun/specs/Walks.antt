@@ -4,12 +4,12 @@ use Prim.Native.Nat.{ℕ, _+_, _-_, _≤_, _<_}
 use Rattle.law.specs.Document.{epicycles}
 use Rattle.motion.specs.Working.{rootOf, placeOf}
 
-pub record Underway (y root mark left j before seen : ℕ) : Type 0 where
+pub record Underway (y root mark left j before count : ℕ) : Type 0 where
   pub year : y ≤ 4_000
   pub rooted : root ≡ rootOf y
   pub some : 0 < left
   pub days : j + left ≤ 375
-  pub eight : seen + left ≤ 8
+  pub most : count + left ≤ 8
   pub reached : mark < placeOf epicycles y (j + left - 1)
   pub behind : before ≤ mark
   pub known : mark < placeOf epicycles y j → (0 < j) × (before ≡ placeOf epicycles y (j - 1))

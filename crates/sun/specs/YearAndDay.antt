@@ -1,17 +1,18 @@
 -- A year and a day given together: what the private functions answer for both, the refusals in their order. Assumes nothing.
 use Prim.Native.Nat.{ℕ}
 use lib.IntN.{ℤ, pos, natAbs, _+ℤ_}
-use Rattle.law.specs.Answer.{Answer, value, refusing}
+use Rattle.reasoning.specs.Answer.{Answer, value, refusing}
+use Rattle.law.specs.Index.{yearIndex, dayIndex}
 use Rattle.law.specs.Document.{anomaly, runOnPlace, badYear, badDay, offTable}
 use Rattle.motion.specs.Working.{lift}
 
 -- both counted from the least allowed on
 pub record Midnights : Type 0 where
-  pub year : ℕ
-  pub night : ℕ
+  pub y : ℕ
+  pub j : ℕ
 
 abbrev pub midnightsOf : ℤ → ℤ → Midnights
-midnightsOf N d = record { year = natAbs (N +ℤ pos 2_000); night = natAbs (d +ℤ pos 4) }
+midnightsOf N d = record { y = yearIndex N; j = dayIndex d }
 
 -- both, the refusals in their order
 unfoldable pub midnightAnswer : ℤ → ℤ → Answer Midnights

@@ -11,8 +11,7 @@ use units::Refusal;
 use units::Signed;
 ghost use mathlib.Core.Path.{_≡_};
 ghost use Prim.Native.Nat.{_+_, _*_, _-_, _/_, _≤_, _<_, _^_};
-ghost use Rattle.law.specs.Round.{halfUp};
-ghost use Rattle.law.specs.Document.{minute, quarter, half, circle, inCircle, mirrored as mirroredArc, sine, epicycles, equationAnswer};
+ghost use Rattle.law.specs.Document.{minute, quarter, half, circle, mirrored as mirroredArc, sine, epicycles, equationAnswer};
 ghost use Rattle.law.specs.Sines.{sines as sineTable};
 ghost use Rattle.law.specs.Tangents.{tangents as tangentTable};
 ghost use Rattle.motion.specs.Working.{heightOf, tangentOf, angleAnswer, sizeAnswer};
@@ -21,25 +20,6 @@ ghost use Rattle.sun.specs.Said.{numberUpTo};
 ghost use Rattle.sun.specs.Tables.{Laid};
 
 const TEN_MINUTES: u64 = 10 * MINUTE;
-
-// n / d, half or more rounded up.
-pub(crate) fn half_up(n: u64, d: u64) -> u64
-    requires { ⌜ (0 < d) × (n < 2 ^ 60) × (d < 2 ^ 60) ⌝ }
-    ensures { λ r. ⌜ r ≡ halfUp n d ⌝ }
-{
-    (2 * n + d) / (2 * d)
-}
-
-// An angle of either sign, brought into the circle.
-fn in_circle(z: i64) -> u64
-    ensures { λ r. ⌜ (r ≡ inCircle z) × (r < circle) ⌝ }
-{
-    let size = units::size(z);
-    if z < 0 {
-        return CIRCLE - 1 - (size - 1) % CIRCLE;
-    }
-    size % CIRCLE
-}
 
 // The sine of an arc up to a quarter circle, from the entries below and above it.
 fn sine_of(x: u64, sines: &[u64; 541]) -> u64
@@ -59,7 +39,7 @@ fn height(x: u64, sines: &[u64; 541]) -> u64
     requires { ⌜ (x ≤ quarter) × (now sines ≡ sineTable) ⌝ }
     ensures { λ r. ⌜ (r ≡ heightOf epicycles x) × (r ≤ 179_208) ⌝ }
 {
-    half_up(EPICYCLES * sine_of(x, sines), RADIUS)
+    units::half_up(EPICYCLES * sine_of(x, sines), RADIUS)
 }
 
 // Steps 2 and 3: the arc from the perigee, up to a half circle.
@@ -69,10 +49,10 @@ fn tangent(u: u64, sines: &[u64; 541]) -> u64
 {
     if u <= QUARTER {
         let near = height(u, sines);
-        return half_up(2 * near * RADIUS, RADIUS - height(QUARTER - u, sines));
+        return units::half_up(2 * near * RADIUS, RADIUS - height(QUARTER - u, sines));
     }
     let far = height(HALF - u, sines);
-    half_up(2 * far * RADIUS, RADIUS + height(u - QUARTER, sines))
+    units::half_up(2 * far * RADIUS, RADIUS + height(u - QUARTER, sines))
 }
 
 // Step 4. Steps of 2,908 to 2,914 put the minute at t / 2,914 or one further.
@@ -127,7 +107,7 @@ pub(crate) fn size_at(a: u64, sines: &[u64; 541], tangents: &[u64; 131]) -> Numb
 pub fn equation_at(anomaly: i64) -> Signed
     ensures { λ r. ⌜ saidSigned r ≡ equationAnswer epicycles anomaly ⌝ }
 {
-    let a = in_circle(anomaly);
+    let a = units::in_circle(anomaly);
     let sines = tables::sine_table();
     let tangents = tables::tangent_table();
     match size_at(a, &sines, &tangents) {

@@ -7,13 +7,13 @@ use crate::year::root_of;
 use units::Number;
 use units::Refusal;
 ghost use mathlib.Core.Path.{_≡_};
-ghost use Prim.Native.Nat.{_≤_};
-ghost use Rattle.law.specs.Answer.{value};
-ghost use Rattle.law.specs.Document.{epicycles, inOrder, termAnswer, termsAnswer};
-ghost use Rattle.motion.specs.Working.{rootOf, placeOf, findFrom, findOf, termOf};
+ghost use Prim.Native.Nat.{_+_, _≤_, _<_, _^_};
+ghost use Rattle.reasoning.specs.Answer.{value};
+ghost use Rattle.law.specs.Document.{epicycles, termAnswer};
+ghost use Rattle.motion.specs.Working.{rootOf, placeOf, minuteBetween, findFrom, findOf, termOf};
 ghost use Rattle.sun.specs.Tables.{Laid};
 ghost use Rattle.sun.specs.Walks.{Underway};
-ghost use Rattle.sun.specs.Said.{saidFound, saidTerm, saidTerms, termsListed, heldTerms, findUpTo};
+ghost use Rattle.sun.specs.Said.{saidWalked, saidTerm, walkedUpTo};
 
 // A term's mark is at 15 degrees times its number.
 const FIFTEEN_DEGREES: u64 = 15 * 60 * MINUTE;
@@ -24,15 +24,30 @@ pub struct TermRecord {
     pub count: u64,
 }
 
+// What is read past a list's end, and what a refusal leaves by value.
+pub const ZERO_RECORD: TermRecord = TermRecord {
+    day: 0,
+    minute: 0,
+    count: 0,
+};
+
 pub enum TermAnswer {
     Is(TermRecord),
     Refused(Refusal),
 }
 
 // The night before the first midnight past the mark, counted from day -4 on; the minute; the count.
-enum Found {
+enum Walked {
     At(u64, u64, u64),
     Refused(Refusal),
+}
+
+// The minute of a mark between the places of two midnights in a row, cut off.
+fn minute_between(mark: u64, place: u64, next: u64) -> u64
+    requires { ⌜ (place ≤ mark) × (mark < next) × (next ≤ place + 2 ^ 50) ⌝ }
+    ensures { λ r. ⌜ r ≡ minuteBetween mark place next ⌝ }
+{
+    1_440 * (mark - place) / (next - place)
 }
 
 // One midnight further each time. `before` is the place of the midnight before j, once one was visited.
@@ -44,17 +59,17 @@ fn walk(
     left: u64,
     j: u64,
     before: u64,
-    seen: u64,
+    count: u64,
     sines: &[u64; 541],
     tangents: &[u64; 131],
-) -> Found
-    requires { ⌜ Underway y root mark left j before seen × Laid (now sines) (now tangents) ⌝ }
-    ensures { λ r. ⌜ (saidFound r ≡ value (findFrom (placeOf epicycles y) mark left j seen)) × findUpTo 374 r ⌝ }
+) -> Walked
+    requires { ⌜ Underway y root mark left j before count × Laid (now sines) (now tangents) ⌝ }
+    ensures { λ r. ⌜ (saidWalked r ≡ value (findFrom (placeOf epicycles y) mark left j count)) × walkedUpTo 374 r ⌝ }
 {
     match lifted_place(y, root, j, sines, tangents) {
         Number::Is(place) => {
             if mark < place {
-                return Found::At(j - 1, 1_440 * (mark - before) / (place - before), seen + 1);
+                return Walked::At(j - 1, minute_between(mark, before, place), count + 1);
             }
             walk(
                 y,
@@ -63,36 +78,42 @@ fn walk(
                 left - 1,
                 j + 1,
                 place,
-                seen + 1,
+                count + 1,
                 sines,
                 tangents,
             )
         }
-        Number::Refused(refusal) => Found::Refused(refusal),
+        Number::Refused(refusal) => Walked::Refused(refusal),
     }
 }
 
 // From three days before the whole part of (mark - root) / daily motion, with eight midnights left.
-fn find(y: u64, root: u64, k: u64, sines: &[u64; 541], tangents: &[u64; 131]) -> Found
+fn find(y: u64, root: u64, k: u64, sines: &[u64; 541], tangents: &[u64; 131]) -> Walked
     requires { ⌜ (y ≤ 4_000) × (root ≡ rootOf y) × (k ≤ 23) × Laid (now sines) (now tangents) ⌝ }
-    ensures { λ r. ⌜ (saidFound r ≡ value (findOf epicycles y k)) × findUpTo 374 r ⌝ }
+    ensures { λ r. ⌜ (saidWalked r ≡ value (findOf epicycles y k)) × walkedUpTo 374 r ⌝ }
 {
     let mark = k * FIFTEEN_DEGREES;
     let start = (mark + 4 * DAILY - root) / DAILY - 3;
     walk(y, root, mark + LIFT, 8, start, 0, 0, sines, tangents)
 }
 
-fn term_in(y: u64, root: u64, k: u64, sines: &[u64; 541], tangents: &[u64; 131]) -> TermAnswer
+pub(crate) fn term_in(
+    y: u64,
+    root: u64,
+    k: u64,
+    sines: &[u64; 541],
+    tangents: &[u64; 131],
+) -> TermAnswer
     requires { ⌜ (y ≤ 4_000) × (root ≡ rootOf y) × (k ≤ 23) × Laid (now sines) (now tangents) ⌝ }
     ensures { λ r. ⌜ saidTerm r ≡ value (termOf epicycles y k) ⌝ }
 {
     match find(y, root, k, sines, tangents) {
-        Found::At(night, minute, count) => TermAnswer::Is(TermRecord {
-            day: (night as i64) - 4,
+        Walked::At(j, minute, count) => TermAnswer::Is(TermRecord {
+            day: (j as i64) - 4,
             minute,
             count,
         }),
-        Found::Refused(refusal) => TermAnswer::Refused(refusal),
+        Walked::Refused(refusal) => TermAnswer::Refused(refusal),
     }
 }
 
@@ -109,62 +130,4 @@ pub fn term_of(n: i64, k: u64) -> TermAnswer
     let sines = tables::sine_table();
     let tangents = tables::tangent_table();
     term_in(y, root_of(y), k, &sines, &tangents)
-}
-
-pub enum Listed {
-    All,
-    Refused(Refusal),
-}
-
-// A year's 24 terms; on a refusal every record is 0.
-pub struct YearTerms {
-    pub answer: Listed,
-    pub at: [TermRecord; 24],
-}
-
-pub(crate) const BLANK: TermRecord = TermRecord {
-    day: 0,
-    minute: 0,
-    count: 0,
-};
-
-pub(crate) fn terms_in(y: u64, root: u64) -> YearTerms
-    requires { ⌜ (y ≤ 4_000) × (root ≡ rootOf y) ⌝ }
-    ensures { λ r. ⌜ (r .answer ≡ Listed.All) × (termsListed r ≡ inOrder (termOf epicycles y) 24) ⌝ }
-{
-    let sines = tables::sine_table();
-    let tangents = tables::tangent_table();
-    let mut at = [BLANK; 24];
-    let mut k: usize = 0;
-    while k < 24 {
-        match term_in(y, root, k as u64, &sines, &tangents) {
-            TermAnswer::Is(term) => {
-                at[k] = term;
-            }
-            TermAnswer::Refused(refusal) => {
-                return YearTerms {
-                    answer: Listed::Refused(refusal),
-                    at: [BLANK; 24],
-                };
-            }
-        }
-        k += 1;
-    }
-    YearTerms {
-        answer: Listed::All,
-        at,
-    }
-}
-
-// The 24 terms of the year n, by value.
-pub fn terms_of(n: i64) -> YearTerms
-    ensures { λ r. ⌜ (saidTerms r ≡ termsAnswer epicycles n) × (termsListed r ≡ heldTerms (termsAnswer epicycles n)) ⌝ }
-{
-    let Number::Is(y) = units::year_index(n) else {
-        return YearTerms {
-            answer: Listed::Refused(Refusal::YearOutside),
-            at: [BLANK; 24],
-        };
-    };
-    terms_in(y, root_of(y))
 }

@@ -3,9 +3,9 @@ use mathlib.Core.Path.{_≡_, refl, ap}
 use Prim.Native.Nat.{ℕ, _+_, _*_, _-_, _/_, _≤_, _<_}
 use native.Mathlib.Decide.{decLt}
 use native.Mathlib.Omega.{arith}
-use Rattle.reasoning.proofs.Choice.{lt-yes, lt-no}
+use borrow.Author.Tests.{lt-ltb, le-ltb}
 use Rattle.law.specs.Entry.{lastTangent, tangentEntry}
-use Rattle.law.specs.Answer.{value, refused}
+use Rattle.reasoning.specs.Answer.{value, refused}
 use Rattle.law.specs.Document.{minute, anglePast}
 use Rattle.law.proofs.Rules.{tangent-run, tangent-range}
 use Rattle.law.proofs.Angles.{angle-at, angle-end}
@@ -32,13 +32,13 @@ seat t h =
 
 pub angle-refused : (t : ℕ) → tangentEntry lastTangent < t → refused 5 ≡ angleAnswer t
 unfolding angleAnswer
-angle-refused t h = rw (lt-yes h) refl
+angle-refused t h = rw (lt-ltb _ _ h) refl
 
 pub angle-last : (t : ℕ) → t ≡ tangentEntry lastTangent → value (lastTangent * minute) ≡ angleAnswer t
 unfolding angleAnswer
 angle-last t e =
     let h : t ≤ tangentEntry lastTangent = omega arith in
-    rw (lt-no h, angle-end t (omega arith)) refl
+    rw (le-ltb _ _ h, angle-end t (omega arith)) refl
 
 pub angle-inside : (t m below above : ℕ) → m < lastTangent → below ≡ tangentEntry m → above ≡ tangentEntry (m + 1) → below ≤ t → t < above
     → value (m * minute + (t - below) * minute / (above - below)) ≡ angleAnswer t
@@ -46,4 +46,4 @@ unfolding angleAnswer anglePast
 angle-inside t m below above l p q h g =
     let e : m + 1 + (lastTangent - (m + 1)) ≡ lastTangent = omega arith in
     let i : t ≤ tangentEntry lastTangent = omega (arith, tangent-run (lastTangent - (m + 1)) (m + 1) (omega arith), ap tangentEntry e) in
-    rw (lt-no i, angle-at t m l (omega arith) (omega arith), p, q) refl
+    rw (le-ltb _ _ i, angle-at t m l (omega arith) (omega arith), p, q) refl

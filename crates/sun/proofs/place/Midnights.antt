@@ -6,8 +6,8 @@ use lib.IntN.{ℤ}
 use mir.Syntax.{w64}
 use mir.Val.{SFits}
 use mir.Facts.{toZ-ofZ}
-use Rattle.reasoning.proofs.Inside.{Inside}
-use Rattle.law.specs.Answer.{Answer, refused, refusing}
+use Rattle.reasoning.proofs.Indexed.{Indexed}
+use Rattle.reasoning.specs.Answer.{Answer, refused, refusing}
 use Rattle.law.specs.Document.{epicycles, badYear, badDay}
 use Rattle.units.specs.declared.answer.Number.{Number}
 use Rattle.units.specs.declared.refusal.Refusal.{Refusal}
@@ -24,7 +24,7 @@ module _ {n d : ℤ} (f : SFits w64 n) (g : SFits w64 d) where
   told said law e i = sym (ap said i) ∙ (e ∙ ap₂ law (toZ-ofZ f) (toZ-ofZ g))
 
   module _ {r : Midnight} (e : saidMidnight r ≡ midnightAnswer (read w64 n) (read w64 d)) where
-    pub midnight-known : {y j : ℕ} → r ≡ Is y j → Inside 2_000 2_000 n y × Inside 4 370 d j
+    pub midnight-known : {y j : ℕ} → r ≡ Is y j → Indexed 2_000 2_000 n y × Indexed 4 370 d j
     midnight-known i = midnight-in n d (told saidMidnight midnightAnswer e i)
 
     pub midnight-refused : {q : Refusal} → r ≡ Refused q → {A : Type 0} (x : Answer A)

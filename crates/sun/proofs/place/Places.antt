@@ -2,14 +2,14 @@
 use mathlib.Core.Path.{_≡_, refl, ap, _∙_}
 use Prim.Native.Nat.{ℕ, _+_, _*_, _-_, _%_, _≤_, _<_}
 use native.Mathlib.Omega.{arith}
+use borrow.Author.Tests.{lt-ltb, le-ltb}
 use lib.IntN.{ℤ, pos, natAbs, _+ℤ_}
-use Rattle.reasoning.proofs.Choice.{lt-yes, lt-no}
 use Rattle.reasoning.proofs.Whole.{Is, is-pos, is-add, is-abs, same}
-use Rattle.reasoning.proofs.Inside.{Inside, inside}
+use Rattle.reasoning.proofs.Indexed.{Indexed, indexed}
 use Rattle.law.specs.Round.{floorMod}
-use Rattle.law.specs.Answer.{value, refused}
+use Rattle.reasoning.specs.Answer.{value, refused}
 use Rattle.law.specs.Document.{circle, half, dailyMotion, inCircle, anomaly, tangent, angle, runOnPlace, badYear, badDay, offTable, meanAnswer, trueAnswer, runOnAnswer}
-use Rattle.law.proofs.Answers.{passed, stopped, PassedAll, passed-all, passed-on}
+use Rattle.reasoning.proofs.Answers.{passed, stopped, PassedAll, passed-all, passed-on}
 use Rattle.law.proofs.Floor.{mod-is}
 use Rattle.motion.specs.Working.{rootOf, sizeAnswer, added, taken, anomalyOf, headroom, lift, placeOf, placeAnswer}
 use Rattle.motion.proofs.Bridge.{anomaly-is, run-on-is, mean-in-circle}
@@ -22,13 +22,13 @@ module _ (e y j a size : ℕ) (h : a ≡ anomalyOf y j) where
   unfolding sizeAnswer placeAnswer placeOf added taken
   place-added s l =
       let p = passed (offTable e a) 5 (angle (tangent e a)) s in
-      rw (← h, p .test, lt-yes l, p .is) (ap value (omega arith))
+      rw (← h, p .test, lt-ltb _ _ l, p .is) (ap value (omega arith))
 
   pub place-taken : value size ≡ sizeAnswer e a → half ≤ a → value (rootOf y + headroom + j * dailyMotion - size) ≡ placeAnswer e y j
   unfolding sizeAnswer placeAnswer placeOf added taken
   place-taken s l =
       let p = passed (offTable e a) 5 (angle (tangent e a)) s in
-      rw (← h, p .test, lt-no l, p .is) (ap value (omega arith))
+      rw (← h, p .test, le-ltb _ _ l, p .is) (ap value (omega arith))
 
   pub place-refused : refused size ≡ sizeAnswer e a → refused size ≡ placeAnswer e y j
   unfolding sizeAnswer placeAnswer
@@ -38,7 +38,7 @@ module _ (e y j a size : ℕ) (h : a ≡ anomalyOf y j) where
 
 -- ---- the document's answers, for a year and a day in range
 
-module _ (N d : ℤ) {y j : ℕ} (n : Inside 2_000 2_000 N y) (m : Inside 4 370 d j) where
+module _ (N d : ℤ) {y j : ℕ} (n : Indexed 2_000 2_000 N y) (m : Indexed 4 370 d j) where
   pub mean-value : value ((rootOf y + j * dailyMotion + (circle - 4 * dailyMotion)) % circle) ≡ meanAnswer N d
   unfolding meanAnswer
   mean-value = rw (n .test, m .test, mean-in-circle (n .is) (m .is)) refl
@@ -59,8 +59,8 @@ module _ (e : ℕ) (N d : ℤ) (p : ℕ) where
   lifted-is : value p ≡ liftedAnswer e N d → Is (runOnPlace e N d) p lift
   lifted-is s =
       let w = lifted s in
-      let n = inside 2_000 2_000 N (natAbs (N +ℤ pos 2_000)) (w .first) refl in
-      let m = inside 4 370 d (natAbs (d +ℤ pos 4)) (w .second) refl in
+      let n = indexed 2_000 2_000 N (natAbs (N +ℤ pos 2_000)) (w .first) refl in
+      let m = indexed 4 370 d (natAbs (d +ℤ pos 4)) (w .second) refl in
       let i = run-on-is (n .is) (m .is) e (n .most) in
       let a = is-add i (is-pos lift) in
       omega (arith, is-abs a (omega arith), w .is)

@@ -3,7 +3,7 @@ use mathlib.Core.Path.{_≡_, ap, sym, _∙_}
 use Prim.Native.Nat.{ℕ, _+_, _/_, _<_}
 use native.Mathlib.Omega.{arith}
 use lib.ListN.{getD}
-use Rattle.law.specs.Answer.{value}
+use Rattle.reasoning.specs.Answer.{value}
 use Rattle.law.specs.Entry.{lastTangent, tangentEntry}
 use Rattle.law.proofs.Rules.{tangent-range}
 use Rattle.tables.proofs.Entries.{tangent-read}

@@ -5,7 +5,7 @@ use native.Mathlib.Omega.{arith}
 use mir.Syntax.{w64}
 use mir.Facts.{toZ-ofZ, toZ-pos}
 use borrow.Author.Needs.{needs}
-use Rattle.law.specs.Answer.{value, refused}
+use Rattle.reasoning.specs.Answer.{value, refused}
 use Rattle.law.specs.Document.{epicycles, inCircle}
 use Rattle.motion.specs.Working.{sizeAnswer}
 use Rattle.units.specs.Said.{numberOf, saidNumber}

@@ -1,10 +1,10 @@
 -- The lifted place at a midnight in range; a refusal of its year or day is passed on. Assumes nothing.
 use mathlib.Core.Path.{_∙_}
 use borrow.Author.Needs.{needs}
-use Rattle.law.specs.Answer.{value, refusing}
+use Rattle.reasoning.specs.Answer.{value, refusing}
 use Rattle.law.specs.Document.{epicycles, anomaly, runOnPlace, offTable}
 use lib.IntN.{pos, natAbs, _+ℤ_}
-use Rattle.reasoning.proofs.Inside.{Inside}
+use Rattle.reasoning.proofs.Indexed.{Indexed}
 use Rattle.motion.specs.Working.{lift}
 use Rattle.sun.specs.YearAndDay.{liftedAnswer}
 use Rattle.sun.proofs.place.Places.{lifted-place}
@@ -12,8 +12,8 @@ use Rattle.sun.proofs.place.Midnights.{midnight-known, midnight-refused
 use Rattle.sun.proofs.place.lifted_at.Statement.{statement}
 use Rattle.sun.proofs.place.lifted_at.Tie as tie
 
-in-range : (c : tie.After-y) → Inside 2_000 2_000 (c .before .before .before .args .n) (c .y .given .0 .0)
-    × Inside 4 370 (c .before .before .before .args .d) (c .y .given .0 .1 .0)
+in-range : (c : tie.After-y) → Indexed 2_000 2_000 (c .before .before .before .args .n) (c .y .given .0 .0)
+    × Indexed 4 370 (c .before .before .before .args .d) (c .y .given .0 .1 .0)
 in-range c =
     let start = c .before .before .before in
     midnight-known (start .fits .n) (start .fits .d) (c .before .before .midnight-at .ensures) (c .y .given .1)

@@ -3,7 +3,7 @@ use mathlib.Core.Path.{_≡_, ap, _∙_, subst}
 use Prim.Native.Nat.{_+_, _*_, _-_, _≤_}
 use native.Mathlib.Omega.{arith}
 use borrow.Author.Needs.{needs}
-use Rattle.law.specs.Answer.{value}
+use Rattle.reasoning.specs.Answer.{value}
 use Rattle.law.specs.Document.{epicycles, dailyMotion}
 use Rattle.motion.specs.Working.{sizeAnswer, headroom}
 use Rattle.motion.proofs.Root.{root-of-le}

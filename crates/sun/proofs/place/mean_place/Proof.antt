@@ -2,16 +2,16 @@
 use mathlib.Core.Path.{ap, _∙_}
 use Prim.Native.Nat.{_+_, _*_, _-_, _%_}
 use borrow.Author.Needs.{needs}
-use Rattle.reasoning.proofs.Inside.{Inside}
-use Rattle.law.specs.Answer.{value}
+use Rattle.reasoning.proofs.Indexed.{Indexed}
+use Rattle.reasoning.specs.Answer.{value}
 use Rattle.law.specs.Document.{circle, dailyMotion, inCircle, meanPlace, meanAnswer}
 use Rattle.sun.proofs.place.Places.{mean-value}
 use Rattle.sun.proofs.place.Midnights.{midnight-known, midnight-refused}
 use Rattle.sun.proofs.place.mean_place.Statement.{statement}
 use Rattle.sun.proofs.place.mean_place.Tie as tie
 
-in-range : (c : tie.After-y) → Inside 2_000 2_000 (c .before .before .before .args .n) (c .y .given .0 .0)
-    × Inside 4 370 (c .before .before .before .args .d) (c .y .given .0 .1 .0)
+in-range : (c : tie.After-y) → Indexed 2_000 2_000 (c .before .before .before .args .n) (c .y .given .0 .0)
+    × Indexed 4 370 (c .before .before .before .args .d) (c .y .given .0 .1 .0)
 in-range c =
     let start = c .before .before .before in
     midnight-known (start .fits .n) (start .fits .d) (c .before .before .midnight-at .ensures) (c .y .given .1)

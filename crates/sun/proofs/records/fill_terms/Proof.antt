@@ -41,25 +41,24 @@ use denote.Triple.Table.{entered, cited}
 use denote.Triple.Walked.{says, Stays, stay-none, gave-slice, walkOf, goes-none, goes-gave-slice, Walks, ends-at, walked, walk-meets}
 use denote.Exit.{yes}
 use Rattle.reasoning.proofs.ByHand.{answered, plainly}
-use Rattle.law.specs.Answer.{done as whether}
 use Rattle.law.specs.Document.{epicycles, fillAnswer}
 use Rattle.sun.specs.declared.term.TermRecord.{TermRecord}
 use Rattle.sun.specs.declared.records.Records.{Records}
-use Rattle.sun.specs.declared.records.ListWork.{ListWork}
-use Rattle.sun.specs.Said.{valuesOf}
-use Rattle.sun.specs.Records.{stored, fitting, saidDone, keeps}
-use Rattle.sun.proofs.Filling.{list-filled}
+use Rattle.sun.specs.declared.worked_year.WorkedYear.{WorkedYear}
+use Rattle.sun.specs.Said.{valuesOfTerm}
+use Rattle.sun.specs.Records.{stored, fittingCount, WorkedOut}
+use Rattle.sun.proofs.ListFilled.{list-filled}
 use Rattle.sun.proofs.term.TermRecord as T
-use Rattle.sun.proofs.term.Listed as Said
-use Rattle.sun.proofs.term.Listed.Laws as Said′
+use Rattle.sun.proofs.worked_year.Listed as Said
+use Rattle.sun.proofs.worked_year.Listed.Laws as Said′
 use Rattle.sun.proofs.records.Records as Rs
 use Rattle.sun.proofs.records.Records.Laws as Rs′
-use Rattle.sun.proofs.records.ListWork as Wk
-use Rattle.sun.proofs.records.ListWork.Laws as Wk′
-use Rattle.sun.proofs.records.work_for as work-for
-use Rattle.sun.proofs.records.work_for.Symbol as work-for-def
-use Rattle.sun.proofs.records.work_for.Symbol.{name as #work-for}
-use Rattle.sun.proofs.records.work_for.Met as work-for-met
+use Rattle.sun.proofs.worked_year.WorkedYear as Wk
+use Rattle.sun.proofs.worked_year.WorkedYear.Laws as Wk′
+use Rattle.sun.proofs.worked_year.work_for as work-for
+use Rattle.sun.proofs.worked_year.work_for.Symbol as work-for-def
+use Rattle.sun.proofs.worked_year.work_for.Symbol.{name as #work-for}
+use Rattle.sun.proofs.worked_year.work_for.Met as work-for-met
 use Rattle.sun.proofs.records.store_records as store
 use Rattle.sun.proofs.records.store_records.Symbol as store-def
 use Rattle.sun.proofs.records.store_records.Symbol.{name as #store}
@@ -111,10 +110,8 @@ module _ {M : Type 1} (𝓤 : URA M) (H : Heap 𝓤) (A : Atoms 𝓤) (W : Given
   abbrev Post : Val → SProp 𝓤
   Post = walkOf 𝓤 H A this.ended stayed (this.clauses 𝓤 H A mem run) .post (((κ, tt), (q, tt), tt, a, at), tt)
 
-  abbrev Worked : ListWork → Type 0
-  Worked w =
-      (saidDone (w .answer) ≡ whether (fillAnswer epicycles n (length ys))) × keeps (w .records) (fillAnswer epicycles n (length ys))
-      × (w .records .count ≤ length ys)
+  abbrev Worked : WorkedYear → Type 0
+  Worked w = WorkedOut n (fillAnswer epicycles n (length ys)) w × (w .records .count ≤ length ys)
 
   -- what the callees are handed
   abbrev to-work : WorkFor 𝓤 H A mem run .Ghost
@@ -138,15 +135,15 @@ module _ {M : Type 1} (𝓤 : URA M) (H : Heap 𝓤) (A : Atoms 𝓤) (W : Given
       move ! (1 ∷ []) $ nothing ! $ owned ! All (Is All) (LL.makes Rs.the-type Rs′.the-plain 𝓤 H A) rs (mach rs ∷ []) is-rs $ fjoin ! $
       move ! (1 ∷ 0 ∷ []) $ fjoin ! $ move ! (1 ∷ 0 ∷ []) $ join ! $ frame ! $ done !
 
-  abbrev After : ListWork → List TermRecord → Type 0
-  After w zs = zs ≡ stored (w .records .at) (fitting (w .records .count) (length ys)) ys
+  abbrev After : WorkedYear → List TermRecord → Type 0
+  After w zs = zs ≡ stored (w .records .at) (fittingCount (w .records .count) (length ys)) ys
 
-  exits : (w : ListWork) (zs : List TermRecord) → Worked w → After w zs → length zs ≡ length ys → Is Said.the-row (w .answer) (EL.vals Said.the-type Said′.the-laws (w .answer))
+  exits : (w : WorkedYear) (zs : List TermRecord) → Worked w → After w zs → length zs ≡ length ys → Is Said.the-row (w .answer) (EL.vals Said.the-type Said′.the-laws (w .answer))
       → ent 𝓤 (⋆ 𝓤 H A ((‵ (flft κ q) ⊛ ‵ ftrue) ∷ ‵ (finally Row γ zs) ∷ [])) (Post (EL.val Said.the-type Said′.the-laws (w .answer)))
   exits w zs e e₂ long is =
       qed W ((‵ (flft κ q) ⊛ ‵ ftrue) ∷ ‵ (finally Row γ zs) ∷ []) ∵
       suffices ! _ (ends-at 𝓤 H A this.ended stayed (this.clauses 𝓤 H A mem run) W (((κ, tt), (q, tt), tt, a, at), tt) (EL.val Said.the-type Said′.the-laws (w .answer)) (w .answer) (zs, (tt, tt)) (long, (tt, tt))) $
-      says ! (e .0, ap (map valuesOf) e₂ ∙ list-filled (fillAnswer epicycles n (length ys)) (w .records) ys (e .1) (e .2)) $ frame ! $
+      says ! (record { says = e .0 .says; list = ap (map valuesOfTerm) e₂ ∙ list-filled (fillAnswer epicycles n (length ys)) (w .records) ys (e .0 .kept) (e .1) }) $ frame ! $
       nothing ! $ owned ! i64 (Is i64) (sint-makes 𝓤 H A W w64) n _ is-n $ fjoin ! $ move ! (1 ∷ 0 ∷ []) $ fjoin ! $ frame ! $
       owned ! Said.the-row (Is Said.the-row) (EL.makes Said.the-type Said′.the-plain 𝓤 H A) (w .answer) _ is $ done !
 
@@ -208,5 +205,5 @@ fill-terms-spec 𝓤 H 𝓜 𝓖 𝓡 =
     entered 𝓤 H (tripleOf 𝓤 H (𝓖 .A) this.signature (this.spec 𝓤 H (𝓖 .A) (𝓜 .mem) (𝓡 .run)))
     (tables 𝓤 H 𝓜 𝓡 code.env .C) (tables 𝓤 H 𝓜 𝓡 code.env .Λ) #fill-terms code.function (code.unfolded 𝓤 H 𝓜 𝓡)
     (meets 𝓤 H (𝓖 .A) (givenOf 𝓤 H 𝓜 𝓖) (𝓜 .mem) (𝓡 .run) (tablesOf 𝓤 H 𝓜 (tables 𝓤 H 𝓜 𝓡 code.env))
-    (cited 𝓤 H (WorkFor 𝓤 H (𝓖 .A) (𝓜 .mem) (𝓡 .run)) 𝓜 𝓡 code.env #work-for work-for-def.routine code.calls-sun·records·work-for (work-for-met.met 𝓤 H 𝓜 𝓖 𝓡))
+    (cited 𝓤 H (WorkFor 𝓤 H (𝓖 .A) (𝓜 .mem) (𝓡 .run)) 𝓜 𝓡 code.env #work-for work-for-def.routine code.calls-sun·worked-year·work-for (work-for-met.met 𝓤 H 𝓜 𝓖 𝓡))
     (cited 𝓤 H (Store 𝓤 H (𝓖 .A) (𝓜 .mem) (𝓡 .run)) 𝓜 𝓡 code.env #store store-def.routine code.calls-sun·records·store-records (store-met.met 𝓤 H 𝓜 𝓖 𝓡)))

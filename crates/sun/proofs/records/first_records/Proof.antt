@@ -44,8 +44,8 @@ use denote.Exit.{yes}
 use Rattle.reasoning.proofs.ByHand.{answered, plainly, Nearer, nearer-ends, more-stored, after}
 use Rattle.sun.specs.declared.term.TermRecord.{TermRecord}
 use Rattle.sun.specs.declared.records.Records.{Records}
-use Rattle.sun.specs.Records.{blank, recordAt, withRecord, firstCount, noneOf, taken}
-use Rattle.sun.proofs.Filling.{place-fits}
+use Rattle.sun.specs.Records.{zeroRecord, recordAt, withRecord, firstCount, noneOf, taken}
+use Rattle.sun.proofs.ListFilled.{place-fits}
 use Rattle.sun.proofs.term.TermRecord as T
 use Rattle.sun.proofs.term.TermRecord.Laws as T′
 use Rattle.sun.proofs.records.Records as Rs
@@ -155,7 +155,7 @@ module _ {M : Type 1} (𝓤 : URA M) (H : Heap 𝓤) (A : Atoms 𝓤) (W : Given
   module _ (small : n ≤ 24) (fits : n ≤ length ys) where
     acc-more : (k : ℕ) → k < n → withRecord (acc k) k (recordAt ys k) ≡ acc (k + 1)
     acc-more k l =
-        ap (λ (rs : List TermRecord). record { count = n; at = rs }) (more-stored ys (noneOf (length ys) .at) k blank (omega arith) (omega arith))
+        ap (λ (rs : List TermRecord). record { count = n; at = rs }) (more-stored ys (noneOf (length ys) .at) k zeroRecord (omega arith) (omega arith))
 
     -- how far the loop is, and what is known of the records so far
     abbrev Turns : Type 0
@@ -210,10 +210,10 @@ module _ {M : Type 1} (𝓤 : URA M) (H : Heap 𝓤) (A : Atoms 𝓤) (W : Given
           -- a shared list can be had twice: one is looked into, the other kept
           move ! (1 ∷ []) $ use1 W (‵ Whole ⊛ ‵ Whole) (shr-slice-copy 𝓤 H A W (named 0) κ Row .twice list (s ∷ [])) $ split ! $ fsplit ! $ drop ! $ fsplit ! $ drop ! $ move ! (0 ∷ 2 ∷ []) $
           looks-slice ! tt Row (Is Row) (shows 𝓤 H A Row) (LL.vals T.the-type T′.the-laws) (LL.tells T.the-type T′.the-laws) (LL.copy T.the-type T′.the-copy 𝓤 H A W) ys b o (λ q′.
-          elem-out ! Row (Is Row) (shows 𝓤 H A Row) (LL.vals T.the-type T′.the-laws) (LL.tells T.the-type T′.the-laws) q′ ys k blank b o w (λ is-r.
+          elem-out ! Row (Is Row) (shows 𝓤 H A Row) (LL.vals T.the-type T′.the-laws) (LL.tells T.the-type T′.the-laws) q′ ys k zeroRecord b o w (λ is-r.
           -- [list[k]; what it owns; the others; what shuts; the fractured borrow; the list; _4; _2; _5; _7; _8; _9; _10; _1; …]
           assigns ! (of-opd ! (load ! (from ! (hop ! (look ! 11 refl) (stop !))) (look-raw ! 0 refl))) (from ! (stop !)) (init ! 12 refl (LL.lawful T.the-type T′.the-laws 𝓤 H A W .typed (recordAt ys k) _ is-r .0)) $
-          elem-back ! Row q′ ys k blank (T′.lowered (recordAt ys k) ∷ []) b o w $ shuts-slice ! tt Row q′ ys b o $ move ! (1 ∷ []) $ drop ! $
+          elem-back ! Row q′ ys k zeroRecord (T′.lowered (recordAt ys k) ∷ []) b o w $ shuts-slice ! tt Row q′ ys b o $ move ! (1 ∷ []) $ drop ! $
           assigns ! (of-opd ! (load ! (from ! (stop !)) (look ! 8 refl))) (from ! (stop !)) (init ! 4 refl (LL.lawful T.the-type T′.the-laws 𝓤 H A W .typed (recordAt ys k) _ is-r .0)) $
           use0 W (raw (With 𝓤 H A mem run .pre (to-with k))) (goes-with k (omega arith) (omega arith) is-acc is-r) $
           calls-at ! (fmOf 𝓤 H (W .laws) 𝓣) (With 𝓤 H A mem run) known (to-with k)

@@ -46,8 +46,8 @@ use denote.Exit.{yes}
 use Rattle.reasoning.proofs.ByHand.{answered, plainly, Upto, Nearer, nearer-ends, more-stored, stored-length, after}
 use Rattle.sun.specs.declared.term.TermRecord.{TermRecord}
 use Rattle.sun.specs.declared.records.Records.{Records}
-use Rattle.sun.specs.Records.{blank, recordAt, stored, fitting}
-use Rattle.sun.proofs.Filling.{place-fits}
+use Rattle.sun.specs.Records.{zeroRecord, recordAt, stored, fittingCount}
+use Rattle.sun.proofs.ListFilled.{place-fits}
 use Rattle.sun.proofs.term.TermRecord as T
 use Rattle.sun.proofs.term.TermRecord.Laws as T′
 use Rattle.sun.proofs.records.Records as Rs
@@ -120,7 +120,7 @@ module _ {M : Type 1} (𝓤 : URA M) (H : Heap 𝓤) (A : Atoms 𝓤) (W : Given
 
   -- what the two callees are handed: plain data alone
   abbrev Fit : ℕ → Type 0
-  Fit n = (n ≡ fitting (rs .count) (length ys)) × (n ≤ 24) × (n ≤ length ys)
+  Fit n = (n ≡ fittingCount (rs .count) (length ys)) × (n ≤ 24) × (n ≤ length ys)
 
   abbrev to-fitting : Fitting 𝓤 H A mem run .Ghost
   to-fitting = ((tt, tt, tt, (rs .count, (length ys, tt)), (vint w64 (rs .count) ∷ [], (vint w64 (length ys) ∷ [], tt))), tt)
@@ -217,13 +217,13 @@ module _ {M : Type 1} (𝓤 : URA M) (H : Heap 𝓤) (A : Atoms 𝓤) (W : Given
           assigns ! (bin ! (load ! (from ! (stop !)) (look ! 2 refl)) (lit ! tt) (record { fits = g })) (from ! (stop !)) (init ! 5 refl (tt, record { fits = g })) $
           assigns ! (bin ! (load ! (from ! (fld ! refl (stop !))) (look-in ! 7 (sub ! 0 refl (whole !)))) (load ! (from ! (stop !)) (look ! 5 refl)) tt) (from ! (stop !)) (init ! 6 refl (tt, tt)) $
           rewrite ! 6 (λ (p : ℕ). ‵ (fat fullShare tyPtr l₉ 0 (vptr b p))) (sym (place-is 24 o k)) refl $
-          move ! (1 ∷ []) $ elem-out ! Row (Is Row) (shows 𝓤 H A Row) (LL.vals T.the-type T′.the-laws) (LL.tells T.the-type T′.the-laws) fullShare (zs k) k blank b o here (λ _.
+          move ! (1 ∷ []) $ elem-out ! Row (Is Row) (shows 𝓤 H A Row) (LL.vals T.the-type T′.the-laws) (LL.tells T.the-type T′.the-laws) fullShare (zs k) k zeroRecord b o here (λ _.
           -- [list[k]; what it owns; the others; what the record owns; _4; _5; _7; _8; _9; …]
           assigns ! (of-opd ! (load ! (from ! (stop !)) (look ! 5 refl))) (from ! (hop ! (look ! 8 refl) (stop !))) (store-raw ! 0 refl (LL.lawful T.the-type T′.the-laws 𝓤 H A W .typed r (u ∷ []) is .0)) $
           move ! (1 ∷ []) $ drop ! $ move ! (0 ∷ 2 ∷ 1 ∷ []) $ elem-put ! Row fullShare (zs k) k r (u ∷ []) b o here $
           assigns-last ! (bin ! (load ! (from ! (stop !)) (look ! 1 refl)) (lit ! tt) (record { fits = f })) (from ! (stop !)) (store ! 1 refl (tt, record { fits = f })) $
           forget ! 2 refl $ forget ! 3 refl $ forget ! 4 refl $ forget ! 5 refl $
-          rewrite ! 0 (λ (l′ : List TermRecord). ‵ (row Row fullShare l′ b o)) (ap (λ (r′ : TermRecord). set (zs k) k r′) e ∙ more-stored (rs .at) ys k blank there w) refl $
+          rewrite ! 0 (λ (l′ : List TermRecord). ‵ (row Row fullShare l′ b o)) (ap (λ (r′ : TermRecord). set (zs k) k r′) e ∙ more-stored (rs .at) ys k zeroRecord there w) refl $
           again ! (Nearer far n) At (k, le) (k + 1, omega arith) (omega arith)))))
           (λ over. jumps ! $ exec ! (𝓣 .C) (𝓣 .Λ) En code.Mir.t-5 (atRet En Post) $ forget ! 3 refl $ ends (k, le) (nltb→le k n over))
 

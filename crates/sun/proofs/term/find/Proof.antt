@@ -3,7 +3,7 @@ use mathlib.Core.Path.{ap, _∙_}
 use Prim.Native.Nat.{_+_, _*_, _-_, _/_}
 use native.Mathlib.Omega.{arith}
 use borrow.Author.Needs.{needs}
-use Rattle.law.specs.Answer.{value}
+use Rattle.reasoning.specs.Answer.{value}
 use Rattle.law.specs.Document.{degree, dailyMotion}
 use Rattle.motion.proofs.Root.{root-of-le}
 use Rattle.motion.proofs.Finds.{Begins, begins}
@@ -39,7 +39,7 @@ walk-requires c κs =
         rooted = c .pre .1;
         some = omega arith;
         days = b .days;
-        eight = omega arith;
+        most = omega arith;
         reached = b .reached;
         behind = omega arith;
         known = b .known;

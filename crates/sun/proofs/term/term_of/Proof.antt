@@ -2,16 +2,16 @@
 use mathlib.Core.Bool.{true}
 use mathlib.Core.Path.{_≡_, refl, _∙_}
 use native.Mathlib.Omega.{arith}
+use borrow.Author.Tests.{lt-ltb}
 use borrow.Author.Needs.{needs}
-use Rattle.reasoning.proofs.Choice.{lt-yes}
-use Rattle.reasoning.proofs.Inside.{Inside}
+use Rattle.reasoning.proofs.Indexed.{Indexed}
 use Rattle.law.specs.Document.{badYear, epicycles, termAnswer}
 use Rattle.motion.proofs.TermAnswers.{term-value}
 use Rattle.units.proofs.Callers.{year-known, year-unknown}
 use Rattle.sun.proofs.term.term_of.Statement.{statement}
 use Rattle.sun.proofs.term.term_of.Tie as tie
 
-in-range : (c : tie.After-y) → Inside 2_000 2_000 (c .before .before .before .args .n) (c .y .given .0 .0)
+in-range : (c : tie.After-y) → Indexed 2_000 2_000 (c .before .before .before .args .n) (c .y .given .0 .0)
 in-range c = year-known (c .before .before .before .fits .n) (c .before .before .year-index .ensures) (c .y .given .1)
 
 out-of-range : (c : tie.After-enum-told) → badYear (c .before .before .before .args .n) ≡ true
@@ -32,7 +32,7 @@ returns c = rw (out-of-range c) refl
 
 returns-2 : tie.Need-returns-2
 unfolding termAnswer
-returns-2 c = rw (in-range (c .before .before) .test, lt-yes (c .if1 .taken)) refl
+returns-2 c = rw (in-range (c .before .before) .test, lt-ltb _ _ (c .if1 .taken)) refl
 
 sine-table-requires : tie.Need-sine-table-requires
 sine-table-requires c κs = search needs

@@ -2,27 +2,23 @@
 use mathlib.Core.Path.{_≡_, refl, _∙_, subst}
 use Prim.Native.Nat.{_≤_, _-_}
 use native.Mathlib.Omega.{arith}
-use lib.IntN.{pos}
 use lib.ListN.{length, replicate, length-set}
 use borrow.Author.Needs.{needs}
-use Rattle.law.specs.Answer.{value}
+use Rattle.reasoning.specs.Answer.{value}
 use Rattle.law.specs.Document.{epicycles}
-use Rattle.law.proofs.Answers.{same-value, never}
-use Rattle.law.proofs.InOrder.{Filled, filled-none, filled-more, filled-all}
+use Rattle.reasoning.proofs.Answers.{same-value, never}
+use Rattle.reasoning.proofs.InOrder.{FilledTo, filled-none, filled-more, filled-all}
 use Rattle.motion.specs.Working.{termOf}
-use Rattle.sun.specs.Said.{valuesOf, saidTerm}
-use Rattle.sun.specs.declared.term.TermRecord.{TermRecord}
-use Rattle.sun.proofs.term.terms_in.Statement.{statement}
-use Rattle.sun.proofs.term.terms_in.Tie as tie
-
-abbrev blank : TermRecord
-blank = record { day = pos 0; minute = 0; count = 0 }
+use Rattle.sun.specs.Said.{valuesOfTerm, saidTerm}
+use Rattle.sun.specs.Records.{zeroRecord}
+use Rattle.sun.proofs.worked_year.worked_in.Statement.{statement}
+use Rattle.sun.proofs.worked_year.worked_in.Tie as tie
 
 abbrev Inv-loop : tie.InvT-loop
-Inv-loop y root sines tangents at₀ k₀ at k = (k ≤ 24) × (length at ≡ 24) × Filled valuesOf (termOf epicycles y) blank at k
+Inv-loop y year sines tangents root at₀ k₀ at k = (k ≤ 24) × (length at ≡ 24) × FilledTo valuesOfTerm (termOf epicycles y) zeroRecord at k
 
 abbrev μ-loop : tie.MeasureT-loop
-μ-loop y root sines tangents at₀ k₀ at k = 24 - k
+μ-loop y year sines tangents root at₀ k₀ at k = 24 - k
 
 sine-table-requires : tie.Need-sine-table-requires Inv-loop μ-loop
 sine-table-requires c κs = search needs
@@ -31,7 +27,7 @@ tangent-table-requires : tie.Need-tangent-table-requires Inv-loop μ-loop
 tangent-table-requires c κs = search needs
 
 loop-holds : tie.Need-loop-holds Inv-loop μ-loop
-loop-holds c = (omega arith, refl, filled-none valuesOf (termOf epicycles (c .before .before .args .y)) blank (replicate 24 blank))
+loop-holds c = (omega arith, refl, filled-none valuesOfTerm (termOf epicycles (c .before .before .args .y)) zeroRecord (replicate 24 zeroRecord))
 
 term-in-requires : tie.Need-term-in-requires Inv-loop μ-loop
 term-in-requires c κs =
@@ -50,12 +46,15 @@ array-set-from-at c = search needs
 enum-known-refusal : tie.Need-enum-known-refusal Inv-loop μ-loop
 enum-known-refusal c = search needs
 
+refused-year-requires : tie.Need-refused-year-requires Inv-loop μ-loop
+refused-year-requires c κs = search needs
+
 returns : tie.Need-returns Inv-loop μ-loop
 returns c =
-    let y = c .before .before .before .before .before .before .before .before .before .before .args .y in
-    let k = c .before .before .before .before .before .before .before .loop .k in
+    let y = c .before .before .before .before .before .before .before .before .before .before .before .args .y in
+    let k = c .before .before .before .before .before .before .before .before .loop .k in
     absurd
-    (never (subst (λ r. saidTerm r ≡ value (termOf epicycles y k)) (c .before .refusal .given .1) (c .before .before .before .term-in .ensures)))
+    (never (subst (λ r. saidTerm r ≡ value (termOf epicycles y k)) (c .before .before .refusal .given .1) (c .before .before .before .before .term-in .ensures)))
 
 add-k : tie.Need-add-k Inv-loop μ-loop
 add-k c = search needs
@@ -70,7 +69,7 @@ loop-again c =
     let term = c .before .term .given .0 .0 in (
       omega arith,
       length-set (l .at) (l .k) term ∙ l .inv .1,
-      filled-more valuesOf (termOf epicycles y) blank (l .at) (l .k) term (l .inv .2) (omega (arith, l .inv .1))
+      filled-more valuesOfTerm (termOf epicycles y) zeroRecord (l .at) (l .k) term (l .inv .2) (omega (arith, l .inv .1))
           (same-value (subst (λ r. saidTerm r ≡ value (termOf epicycles y (l .k))) (c .before .term .given .1) (c .before .before .before .term-in .ensures))),
     )
 
@@ -79,10 +78,15 @@ returns-2 c =
     let y = c .before .before .before .before .args .y in
     let l = c .before .loop in
     let e : l .k ≡ 24 = omega arith in
-    (refl, filled-all valuesOf (termOf epicycles y) blank (l .at) 24 (l .inv .1) (subst (Filled valuesOf (termOf epicycles y) blank (l .at)) e (l .inv .2)))
+    record {
+      all = refl;
+      count = refl;
+      terms = filled-all valuesOfTerm (termOf epicycles y) zeroRecord (l .at) 24 (l .inv .1) (subst (FilledTo valuesOfTerm (termOf epicycles y) zeroRecord (l .at)) e (l .inv .2));
+      same = refl;
+    }
 
-pub terms-in-spec : {M : Type 1} → statement M
-terms-in-spec =
+pub worked-in-spec : {M : Type 1} → statement M
+worked-in-spec =
     tie.close
     (tie.spec
     Inv-loop
@@ -95,6 +99,7 @@ terms-in-spec =
     mul-at
     array-set-from-at
     enum-known-refusal
+    refused-year-requires
     returns
     add-k
     loop-less
