@@ -24,48 +24,48 @@ p and q = ap₂ pair p q
 
 pub bhromilun-year-held : Held year.ended (λ M. year.clauses {M = M})
 bhromilun-year-held M 𝓤 H A mem run κs a =
-    by-facts 𝓤 (λ z z′ w w′ p q. (one (p .0) (q .0), refl and one (p .1) (q .1) and one (p .2) (q .2) and one (p .3) (q .3) and refl))
+    by-facts 𝓤 (λ z z′ w w′ p q. (one (p .number) (q .number), refl and one (p .solsticeDay) (q .solsticeDay) and one (p .solsticeFraction) (q .solsticeFraction) and one (p .dutyMansion) (q .dutyMansion) and refl))
 
 pub bhromilun-equation-held : Held equation.ended (λ M. equation.clauses {M = M})
-bhromilun-equation-held M 𝓤 H A mem run κs a = by-facts 𝓤 (λ z z′ w w′ p q. (one (p .0) (q .0), refl and one (p .1) (q .1) and refl))
+bhromilun-equation-held M 𝓤 H A mem run κs a = by-facts 𝓤 (λ z z′ w w′ p q. (one (p .number) (q .number), refl and one (p .stored) (q .stored) and refl))
 
 pub bhromilun-mean-place-held : Held mean-place.ended (λ M. mean-place.clauses {M = M})
 bhromilun-mean-place-held M 𝓤 H A mem run κs a =
-    by-facts 𝓤 (λ z z′ w w′ p q. (one (p .0) (q .0), refl and refl and one (p .1) (q .1) and refl))
+    by-facts 𝓤 (λ z z′ w w′ p q. (one (p .number) (q .number), refl and refl and one (p .stored) (q .stored) and refl))
 
 pub bhromilun-true-place-held : Held true-place.ended (λ M. true-place.clauses {M = M})
 bhromilun-true-place-held M 𝓤 H A mem run κs a =
-    by-facts 𝓤 (λ z z′ w w′ p q. (one (p .0) (q .0), refl and refl and one (p .1) (q .1) and refl))
+    by-facts 𝓤 (λ z z′ w w′ p q. (one (p .number) (q .number), refl and refl and one (p .stored) (q .stored) and refl))
 
 pub bhromilun-term-held : Held term.ended (λ M. term.clauses {M = M})
 bhromilun-term-held M 𝓤 H A mem run κs a =
-    by-facts 𝓤 (λ z z′ w w′ p q. (one (p .0) (q .0), refl and refl and one (p .1) (q .1) and one (p .2) (q .2) and one (p .3) (q .3) and refl))
+    by-facts 𝓤 (λ z z′ w w′ p q. (one (p .number) (q .number), refl and refl and one (p .dayOfTerm) (q .dayOfTerm) and one (p .minuteOfTerm) (q .minuteOfTerm) and one (p .countOfTerm) (q .countOfTerm) and refl))
 
 pub bhromilun-terms-held : Held terms.ended (λ M. terms.clauses {M = M})
 bhromilun-terms-held M 𝓤 H A mem run κs a =
-    by-facts 𝓤 (λ z z′ w w′ p q. (one (p .0) (q .0), refl and one (p .1) (q .1) and one (p .2) (q .2) and one (p .3) (q .3) and refl))
+    by-facts 𝓤 (λ z z′ w w′ p q. (one (p .number) (q .number), refl and one (p .termDays) (q .termDays) and one (p .termMinutes) (q .termMinutes) and one (p .termCounts) (q .termCounts) and refl))
 
 pub bhromilun-local-time-held : Held local-time.ended (λ M. local-time.clauses {M = M})
 bhromilun-local-time-held M 𝓤 H A mem run κs a =
-    by-facts 𝓤 (λ z z′ w w′ p q. (one (p .0) (q .0), refl and refl and refl and one (p .1) (q .1) and one (p .2) (q .2) and refl))
+    by-facts 𝓤 (λ z z′ w w′ p q. (one (p .number) (q .number), refl and refl and refl and one (p .dayThere) (q .dayThere) and one (p .minuteThere) (q .minuteThere) and refl))
 
 pub bhromilun-write-year-held : Held write-year.ended (λ M. write-year.clauses {M = M})
-bhromilun-write-year-held M 𝓤 H A mem run κs a = by-facts 𝓤 (λ z z′ w w′ p q. (one (p .0) (q .0), refl and one (p .1) (q .1) and refl))
+bhromilun-write-year-held M 𝓤 H A mem run κs a = by-facts 𝓤 (λ z z′ w w′ p q. (one (p .number) (q .number), refl and one (p .stored) (q .stored) and refl))
 
 pub bhromilun-check-book-held : Held check-book.ended (λ M. check-book.clauses {M = M})
-bhromilun-check-book-held M 𝓤 H A mem run κs a = by-facts 𝓤 (λ z z′ w w′ p q. (one (p .0) (q .0), refl and one (p .1) (q .1) and refl))
+bhromilun-check-book-held M 𝓤 H A mem run κs a = by-facts 𝓤 (λ z z′ w w′ p q. (one (p .number) (q .number), refl and one (p .atByte) (q .atByte) and refl))
 
 pub bhromilun-seek-year-held : Held seek-year.ended (λ M. seek-year.clauses {M = M})
 bhromilun-seek-year-held M 𝓤 H A mem run κs a =
-    by-facts 𝓤 (λ z z′ w w′ p q. (one (p .0) (q .0), refl and refl and one (p .1) (q .1) and one (p .2) (q .2) and one (p .3) (q .3) and refl))
+    by-facts 𝓤 (λ z z′ w w′ p q. (one (p .number) (q .number), refl and refl and one (p .partStart) (q .partStart) and one (p .partEnd) (q .partEnd) and one (p .faultByte) (q .faultByte) and refl))
 
 pub bhromilun-read-year-held : Held read-year.ended (λ M. read-year.clauses {M = M})
 bhromilun-read-year-held M 𝓤 H A mem run κs a =
     by-facts 𝓤 (λ z z′ w w′ p q. (
-      one (p .0) (q .0),
-      refl and one (p .1) (q .1) and one (p .2) (q .2) and one (p .3) (q .3) and one (p .4) (q .4) and one (p .5) (q .5) and one (p .6) (q .6) and one (p .7) (q .7) and refl,
+      one (p .number) (q .number),
+      refl and one (p .yearN) (q .yearN) and one (p .yearName) (q .yearName) and one (p .yearMansion) (q .yearMansion) and one (p .termDays) (q .termDays) and one (p .termMinutes) (q .termMinutes) and one (p .yearEnd) (q .yearEnd) and one (p .faultByte) (q .faultByte) and refl,
     ))
 
 pub bhromilun-write-year-from-held : Held write-year-from.ended (λ M. write-year-from.clauses {M = M})
 bhromilun-write-year-from-held M 𝓤 H A mem run κs a =
-    by-facts 𝓤 (λ z z′ w w′ p q. (one (p .0) (q .0), refl and refl and refl and refl and refl and one (p .1) (q .1) and refl))
+    by-facts 𝓤 (λ z z′ w w′ p q. (one (p .number) (q .number), refl and refl and refl and refl and refl and one (p .stored) (q .stored) and refl))

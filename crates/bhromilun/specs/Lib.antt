@@ -1,1 +1,4 @@
-pub mod Plain
+pub mod Told
+pub mod Columns
+pub mod Reckoning
+pub mod Books

@@ -1,42 +1,30 @@
 // The term book.
-use crate::columns::columns_of;
+use crate::columns::store_columns;
 use crate::columns::terms_from;
-use book::BookAnswer;
+use crate::tell::tell_check;
+use crate::tell::tell_sought;
+use crate::tell::tell_written;
 use book::Head;
-use book::Sought;
-use book::Written;
-ghost use mathlib.Core.Path.{_≡_};
-ghost use Rattle.law.specs.Answer.{refusalIn, afterwards, part};
+use book::ReadAnswer;
 ghost use Rattle.law.specs.Document.{epicycles};
-ghost use Rattle.law.specs.Book.{yearFrom, writeAnswer, workedAnswer, bookOf, seekOf};
-ghost use Rattle.bhromilun.specs.Plain.{faultIn, byteIn, soughtRefusal, startIn, endIn, unsoundAt, daysOf, minutesOf, yearRead, yearGiven, afterYear, faultAt};
+ghost use Rattle.law.specs.Book.{writeAnswer, workedAnswer, bookOf, seekOf};
+ghost use Rattle.bhromilun.specs.Told.{Told, lent};
+ghost use Rattle.bhromilun.specs.Books.{ToldCheck, ToldSought, ToldRead, yearGiven};
 
 // Fills the first 149 bytes of a buffer with a year; the later ones stay.
 #[no_mangle]
 pub extern "C" fn bhromilun_write_year(n: i64, buffer: &mut [u8]) -> u64
-    ensures { λ r. ⌜ (r ≡ refusalIn (workedAnswer epicycles n (now (buffer .entry)))) × (now (buffer .exit) ≡ afterwards (now (buffer .entry)) (workedAnswer epicycles n (now (buffer .entry)))) ⌝ }
+    ensures { λ r. ⌜ Told (workedAnswer epicycles n (now (buffer .entry))) r (lent buffer) ⌝ }
 {
-    match book::write_year(n, buffer) {
-        Written::Done => 0,
-        Written::Refused(refusal) => units::refusal_number(refusal),
-    }
+    tell_written(book::write_year(n, buffer))
 }
 
 // Checks a book. The byte is the book's length where it is sound; else that of the record at fault.
 #[no_mangle]
 pub extern "C" fn bhromilun_check_book(bytes: &[u8], byte: &mut usize) -> u64
-    ensures { λ r. ⌜ (r ≡ faultIn (bookOf (now (bytes .entry)))) × (now (byte .exit) ≡ byteIn (bookOf (now (bytes .entry)))) ⌝ }
+    ensures { λ r. ⌜ ToldCheck (bookOf (now (bytes .entry))) r (lent byte) ⌝ }
 {
-    match book::check_book(bytes) {
-        BookAnswer::Sound(end) => {
-            *byte = end;
-            0
-        }
-        BookAnswer::Refused(refusal, at) => {
-            *byte = at;
-            units::refusal_number(refusal)
-        }
-    }
+    tell_check(book::check_book(bytes), byte)
 }
 
 // Seeks a year. Where it is found its part starts and ends at these bytes; a book at fault is so at `byte`.
@@ -48,20 +36,9 @@ pub extern "C" fn bhromilun_seek_year(
     end: &mut usize,
     byte: &mut usize,
 ) -> u64
-    ensures { λ r. ⌜ (r ≡ soughtRefusal (seekOf (now (bytes .entry)) n)) × (now (start .exit) ≡ startIn (now (start .entry)) (seekOf (now (bytes .entry)) n)) × (now (end .exit) ≡ endIn (now (end .entry)) (seekOf (now (bytes .entry)) n)) × (now (byte .exit) ≡ unsoundAt (now (byte .entry)) (seekOf (now (bytes .entry)) n)) ⌝ }
+    ensures { λ r. ⌜ ToldSought (seekOf (now (bytes .entry)) n) r (lent start) (lent end) (lent byte) ⌝ }
 {
-    match book::seek_year(bytes, n) {
-        Sought::Found(first, after) => {
-            *start = first;
-            *end = after;
-            0
-        }
-        Sought::Unsound(refusal, at) => {
-            *byte = at;
-            units::refusal_number(refusal)
-        }
-        Sought::Refused(refusal) => units::refusal_number(refusal),
-    }
+    tell_sought(book::seek_year(bytes, n), start, end, byte)
 }
 
 // Reads the year at the start of the bytes; what follows it is not looked at. A sound year is stored, and the byte after it in `end`;
@@ -77,30 +54,31 @@ pub extern "C" fn bhromilun_read_year(
     end: &mut usize,
     byte: &mut usize,
 ) -> u64
-    ensures { λ r. ⌜ (r ≡ faultIn (yearFrom 0 0 (now (bytes .entry)))) × (now (n .exit) ≡ afterwards (now (n .entry)) (part (λ v. v .yearN) (yearRead (now (bytes .entry))))) × (now («day_name» .exit) ≡ afterwards (now («day_name» .entry)) (part (λ v. v .yearName) (yearRead (now (bytes .entry))))) × (now (mansion .exit) ≡ afterwards (now (mansion .entry)) (part (λ v. v .yearMansion) (yearRead (now (bytes .entry))))) × (now (days .exit) ≡ afterwards (now (days .entry)) (part (λ v. daysOf (v .yearTerms)) (yearRead (now (bytes .entry))))) × (now (minutes .exit) ≡ afterwards (now (minutes .entry)) (part (λ v. minutesOf (v .yearTerms)) (yearRead (now (bytes .entry))))) × (now (end .exit) ≡ afterYear (now (end .entry)) (yearFrom 0 0 (now (bytes .entry)))) × (now (byte .exit) ≡ faultAt (now (byte .entry)) (yearFrom 0 0 (now (bytes .entry)))) ⌝ }
+    ensures { λ r. ⌜ ToldRead (now (bytes .entry)) r (lent n) (lent «day_name») (lent mansion) (lent days) (lent minutes) (lent end) (lent byte) ⌝ }
 {
     let read = book::read_values(bytes);
-    let answer = read.answer;
+    let year = read.year;
+    let answer = year.answer;
     match answer {
-        BookAnswer::Sound(after) => {
-            let at = read.at;
-            let columns = columns_of(at);
-            let day_of = columns.days;
-            let minute_of = columns.minutes;
-            let head = read.head;
-            let year = head.n;
-            *n = year;
+        ReadAnswer::Sound(after) => {
+            let head = year.head;
+            let number = head.n;
+            *n = number;
             *day_name = head.day_name;
             *mansion = head.mansion;
-            *days = day_of;
-            *minutes = minute_of;
+            // Each is 0, and none is asked for.
+            let mut counts = [0u64; 24];
+            let at = read.records.at;
+            store_columns(at, days, minutes, &mut counts);
             *end = after;
             0
         }
-        BookAnswer::Refused(refusal, at) => {
+        ReadAnswer::Unsound(refusal, at) => {
             *byte = at;
             units::refusal_number(refusal)
         }
+        // for a list that is too short, and none was lent
+        ReadAnswer::Refused(refusal) => units::refusal_number(refusal),
     }
 }
 
@@ -114,7 +92,7 @@ pub extern "C" fn bhromilun_write_year_from(
     minutes: &[u64; 24],
     buffer: &mut [u8],
 ) -> u64
-    ensures { λ r. ⌜ (r ≡ refusalIn (writeAnswer (yearGiven n «day_name» mansion (now (days .entry)) (now (minutes .entry))) (now (buffer .entry)))) × (now (buffer .exit) ≡ afterwards (now (buffer .entry)) (writeAnswer (yearGiven n «day_name» mansion (now (days .entry)) (now (minutes .entry))) (now (buffer .entry)))) ⌝ }
+    ensures { λ r. ⌜ Told (writeAnswer (yearGiven n «day_name» mansion (now (days .entry)) (now (minutes .entry))) (now (buffer .entry))) r (lent buffer) ⌝ }
 {
     let head = Head {
         n,
@@ -122,8 +100,5 @@ pub extern "C" fn bhromilun_write_year_from(
         mansion,
     };
     let at = terms_from(days, minutes);
-    match book::write_values(head, at, buffer) {
-        Written::Done => 0,
-        Written::Refused(refusal) => units::refusal_number(refusal),
-    }
+    tell_written(book::write_values(head, at, buffer))
 }

@@ -1,22 +1,23 @@
 // A year's 24 terms as records, and as columns of numbers: a record has no fixed form in C.
 use sun::TermRecord;
+use sun::ZERO_RECORD;
 ghost use mathlib.Core.List.{map};
 ghost use mathlib.Core.Path.{_≡_};
-ghost use Rattle.sun.specs.Said.{valuesOf};
-ghost use Rattle.bhromilun.specs.Plain.{daysOf, minutesOf, countsOf, termsGiven};
+ghost use Rattle.sun.specs.Said.{valuesOfTerm};
+ghost use Rattle.bhromilun.specs.Told.{lent};
+ghost use Rattle.bhromilun.specs.Columns.{termsGiven, StoredColumns};
 
-pub struct Columns {
-    pub days: [i64; 24],
-    pub minutes: [u64; 24],
-    pub counts: [u64; 24],
-}
-
-pub(crate) fn columns_of(terms: [TermRecord; 24]) -> Columns
-    ensures { λ r. ⌜ (r .days ≡ daysOf (map valuesOf terms)) × (r .minutes ≡ minutesOf (map valuesOf terms)) × (r .counts ≡ countsOf (map valuesOf terms)) ⌝ }
+pub(crate) fn store_columns(
+    terms: [TermRecord; 24],
+    days: &mut [i64; 24],
+    minutes: &mut [u64; 24],
+    counts: &mut [u64; 24],
+)
+    ensures { λ _. ⌜ StoredColumns (map valuesOfTerm terms) (lent days) (lent minutes) (lent counts) ⌝ }
 {
-    let mut days = [0i64; 24];
-    let mut minutes = [0u64; 24];
-    let mut counts = [0u64; 24];
+    *days = [0i64; 24];
+    *minutes = [0u64; 24];
+    *counts = [0u64; 24];
     let mut k: usize = 0;
     while k < 24 {
         let term = terms[k];
@@ -26,24 +27,13 @@ pub(crate) fn columns_of(terms: [TermRecord; 24]) -> Columns
         counts[k] = term.count;
         k += 1;
     }
-    Columns {
-        days,
-        minutes,
-        counts,
-    }
 }
-
-const BLANK: TermRecord = TermRecord {
-    day: 0,
-    minute: 0,
-    count: 0,
-};
 
 // Each count is 0.
 pub(crate) fn terms_from(days: &[i64; 24], minutes: &[u64; 24]) -> [TermRecord; 24]
-    ensures { λ r. ⌜ map valuesOf r ≡ termsGiven (now (days .entry)) (now (minutes .entry)) ⌝ }
+    ensures { λ r. ⌜ map valuesOfTerm r ≡ termsGiven (now (days .entry)) (now (minutes .entry)) ⌝ }
 {
-    let mut terms = [BLANK; 24];
+    let mut terms = [ZERO_RECORD; 24];
     let mut i: usize = 0;
     while i < 24 {
         let term = TermRecord {

@@ -3,3 +3,4 @@
 mod books;
 mod columns;
 mod reckoning;
+mod tell;

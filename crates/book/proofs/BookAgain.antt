@@ -8,7 +8,7 @@ use native.Mathlib.Omega.{arith}
 use lib.ListN.{length, drop, drop-of-length-le}
 use Rattle.law.specs.Book.{BookYear, Next, nextYear, bookEnd, stop, bookFrom, bookOf, nextAt, valuesIn}
 use Rattle.book.proofs.BookSteps.{next-end, isSound}
-use Rattle.book.proofs.BackAndThere.{Bytes, bytes-drop, written-again}
+use Rattle.book.proofs.ReadIsWritten.{Bytes, bytes-drop, written-again}
 use Rattle.book.proofs.WholeBooks.{handed, by-dec, allOf}
 
 abbrev valued : Next → List ℕ → ℕ → (ℕ → ℕ → List BookYear) → List BookYear

@@ -1,13 +1,13 @@
 pub mod RecordAnswers
 pub mod YearSteps
-pub mod WhatIsLeft
+pub mod BytesLeft
 pub mod BookSteps
 pub mod Counts
 pub mod ReadValues
 pub mod WriteAnswers
 pub mod WorkedFits
-pub mod ThereAndBack
-pub mod BackAndThere
+pub mod WrittenIsRead
+pub mod ReadIsWritten
 pub mod WholeBooks
 pub mod HeldFast
 pub mod ReaderStays
@@ -15,3 +15,4 @@ pub mod ReaderParts
 pub mod SeekFinds
 pub mod BookAgain
 pub mod ReturnTrips
+pub mod CallsCompose

@@ -9,8 +9,7 @@ use denote.Ref.{RefT, now}
 use Rattle.law.specs.Book.{Next, nextYear, bookEnd, stop, nextAt, handedPart, handOut, partsFrom, partsOf}
 use Rattle.book.specs.declared.reader.Reader.{Reader}
 use Rattle.book.specs.Reader.{opened, finds, handsOut}
-use Rattle.book.proofs.BookSteps.{next-end}
-use Rattle.book.proofs.reader.HandedParts.{year-within}
+use Rattle.book.proofs.BookSteps.{moved, next-end}
 use Rattle.book.proofs.ReaderStays.{afterCalls, wentOn, isYear, stays-empty}
 
 -- ---- from anywhere
@@ -49,8 +48,8 @@ module _ (s : List ℕ) where
   enough-on : (f g at least : ℕ) (found : Next) → nextAt s at least ≡ found → length s ≤ at + suc f → length s ≤ at + suc g
       → ((e l : ℕ) → Enough f g e l) → handOut found s at (partsFrom f s) ≡ handOut found s at (partsFrom g s)
   enough-on f g at least (nextYear e l) q h i on =
-      let w = year-within s at least e l q in
-      ap (λ (ps : List (List ℕ)). take (e - at) (drop at s) ∷ ps) (on e l (omega (arith, w .0)) (omega (arith, w .0)))
+      let m = moved s at least e l q in
+      ap (λ (ps : List (List ℕ)). take (e - at) (drop at s) ∷ ps) (on e l (omega (arith, m .to)) (omega (arith, m .to)))
   enough-on f g at least bookEnd q h i on = refl
   enough-on f g at least (stop n p) q h i on = refl
 

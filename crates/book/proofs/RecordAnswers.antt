@@ -7,8 +7,10 @@ use native.Mathlib.Omega.{arith}
 use borrow.Author.Tests.{lt-ltb, le-ltb, eq-eqb, ne-eqb, ltb-false, eqb-true, not-false}
 use lib.ListN.{length, getD}
 use lib.Dec.{eqb, ltb}
-use Rattle.law.specs.Answer.{Answer, value, refused, refusing}
+use Rattle.reasoning.specs.Answer.{Answer, value, refused, refusing}
+use Rattle.reasoning.proofs.Answers.{both-no}
 use Rattle.law.specs.Book.{Due, aHead, aTerm, twoAt, isHead, isTerm, recordSize, headSize, outOfTurn, outOfRange, recordAnswer}
+use Rattle.book.specs.Said.{otherKind}
 
 -- ---- sizes
 
@@ -37,7 +39,7 @@ module _ (b : List ℕ) (due : Due) where
   refuse-7 p h = simp (ne-eqb (headSize b) 0 (λ e. omega arith), lt-ltb _ _ h)
 
   -- where it is of another kind than the one due, only its kind and its length decide
-  pub other : outOfTurn b due ≡ true → refusing (eqb (headSize b) 0) 8 (refusing (ltb (length b) (headSize b)) 7 (refused 10)) ≡ recordAnswer b due
+  pub other : outOfTurn b due ≡ true → otherKind (getD b 0 0) (length b) ≡ recordAnswer b due
   unfolding recordAnswer
   other e = simp e
 
@@ -120,10 +122,6 @@ split false true r s h = absurd (let z : _≡_ {A = ℕ} 0 1 = cc in omega arith
 split false false true s h = absurd (let z : _≡_ {A = ℕ} 0 1 = cc in omega arith)
 split false false false true h = absurd (let z : _≡_ {A = ℕ} 0 1 = cc in omega arith)
 split false false false false h = (refl, refl, refl)
-
-pub both-no : (p q : Bool) → (p || q) ≡ false → (p ≡ false) × (q ≡ false)
-both-no true q h = absurd (let z : _≡_ {A = ℕ} 0 1 = cc in omega arith)
-both-no false q h = (refl, h)
 
 pub record SoundHead (least : ℕ) (b : List ℕ) : Type 0 where
   pub kind : getD b 0 0 ≡ 1

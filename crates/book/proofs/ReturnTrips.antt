@@ -1,26 +1,27 @@
 -- The two calls between bytes and values return to each other: what one has written the other reads, counts aside; and what one has
 -- read the other writes, the same bytes, into any buffer that has room. Assumes nothing.
 use mathlib.Core.Bool.{false, _||_}
-use mathlib.Core.List.{List, [], _∷_, _++_}
+use mathlib.Core.List.{List, [], _++_}
 use mathlib.Core.Path.{_≡_, refl, sym, ap, subst, _∙_}
-use Prim.Native.Nat.{ℕ, zero, suc, _+_, _*_, _≤_}
+use Prim.Native.Nat.{ℕ, zero, suc, _+_, _≤_}
 use native.Mathlib.Omega.{arith}
 use borrow.Author.Tests.{le-ltb, ltb-false}
 use lib.Dec.{ltb}
 use lib.IntN.{pos, negℤ, _-ℤ_}
 use lib.ListN.{length, take, drop}
+use lib.Seq.{take-at}
 use lib.Signed.{ltZ}
 use Rattle.reasoning.proofs.Whole.{Is, is-pos, is-neg, is-minus, ltZ-is}
-use Rattle.law.specs.Answer.{Answer, value}
-use Rattle.law.specs.Document.{TermValues, badYear}
-use Rattle.law.specs.Book.{BookYear, Checked, sound, twoAt, yearSize, yearFrom, termsOf, bytesOf, termsIn, valuesIn, readAnswer, headOf, headRead, termsRead, anyBad, badValues, writeAnswer}
-use Rattle.law.proofs.Answers.{PassedAll, passed-all}
-use Rattle.book.proofs.RecordAnswers.{both-no}
+use Rattle.reasoning.specs.Answer.{Answer, value}
+use Rattle.law.specs.Document.{badYear}
+use Rattle.law.specs.Book.{BookYear, Checked, sound, twoAt, yearSize, yearFrom, bytesOf, termsIn, valuesIn, readAnswer, headOf, headRead, termsRead, anyBad, badValues, writeAnswer}
+use Rattle.reasoning.proofs.Answers.{PassedAll, passed-all}
+use Rattle.reasoning.proofs.Answers.{both-no}
 use Rattle.book.proofs.YearSteps.{SoundTerms, SoundYear, year-sound}
 use Rattle.book.proofs.ReadValues.{terms-many, read-as}
 use Rattle.book.proofs.WriteAnswers.{write-done}
-use Rattle.book.proofs.ThereAndBack.{Fits, countsAside, written-accepted, written-reads-back}
-use Rattle.book.proofs.BackAndThere.{Bytes, written-again}
+use Rattle.book.proofs.WrittenIsRead.{bytes-before, bytes-long, Fits, countsAside, written-accepted, written-reads-back}
+use Rattle.book.proofs.ReadIsWritten.{Bytes, written-again}
 
 -- ---- what is written is read
 
@@ -82,32 +83,6 @@ read-fits least s g =
       all = terms-many 24 _;
     }
 
--- a year's bytes stand before the rest
-terms-before : (k : ℕ) (ts : List TermValues) (r : List ℕ) → termsOf k ts r ≡ termsOf k ts [] ++ r
-unfolding termsOf
-terms-before k [] r = refl
-terms-before k (t ∷ ts) r = rw (terms-before (suc k) ts r) refl
-
-terms-long : (k : ℕ) (ts : List TermValues) → length (termsOf k ts []) ≡ length ts * 6
-unfolding termsOf
-terms-long k [] = refl
-terms-long k (t ∷ ts) = omega (arith, terms-long (suc k) ts)
-
-module _ (v : BookYear) where
-  bytes-before : (r : List ℕ) → bytesOf v r ≡ bytesOf v [] ++ r
-  unfolding bytesOf
-  bytes-before r = rw (terms-before 0 (v .yearTerms) r) refl
-
-  bytes-long : length (v .yearTerms) ≡ 24 → length (bytesOf v []) ≡ 149
-  unfolding bytesOf
-  bytes-long h = omega (arith, terms-long 0 (v .yearTerms))
-
-front : (xs r : List ℕ) (n : ℕ) → length xs ≡ n → take n (xs ++ r) ≡ xs
-front [] r zero e = refl
-front [] r (suc n) e = absurd (omega arith)
-front (x ∷ xs) r zero e = absurd (omega arith)
-front (x ∷ xs) r (suc n) e = ap (λ (l : List ℕ). x ∷ l) (front xs r n (omega arith))
-
 -- s is lent bytes that start with a year, b a buffer
 pub read-is-written : (s : List ℕ) → Bytes s → (e : ℕ) → yearFrom 0 0 s ≡ sound e → (b : List ℕ) → 149 ≤ length b
     → writeAnswer (valuesIn s) b ≡ value (take 149 s ++ drop 149 b)
@@ -116,6 +91,6 @@ read-is-written s h e q b l =
     let v = valuesIn s in
     let f = read-fits 0 s g in
     let again : bytesOf v [] ++ drop (yearSize s) s ≡ s = sym (bytes-before v (drop (yearSize s) s)) ∙ written-again 0 s h g in
-    let own : take 149 s ≡ bytesOf v [] = ap (take 149) (sym again) ∙ front (bytesOf v []) (drop (yearSize s) s) 149 (bytes-long v (f .all)) in
+    let own : take 149 s ≡ bytesOf v [] = ap (take 149) (sym again) ∙ take-at (bytesOf v []) (drop (yearSize s) s) 149 (bytes-long v (f .all)) in
     write-done v b (f .year) (omega (arith, f .all)) l (f .rest)
     ∙ ap value (bytes-before v (drop 149 b) ∙ ap (λ (x : List ℕ). x ++ drop 149 b) (sym own))

@@ -2,17 +2,17 @@
 -- other, are a sound book. Assumes nothing.
 use mathlib.Core.Bool.{true}
 use mathlib.Core.List.{List, [], _∷_}
-use mathlib.Core.Path.{_≡_, refl, sym, _∙_, ap}
-use Prim.Native.Nat.{ℕ, zero, suc, _+_, _*_, _-_, _≤_, _<_}
+use mathlib.Core.Path.{_≡_, sym, _∙_, ap}
+use Prim.Native.Nat.{ℕ, zero, suc, _+_, _-_, _≤_, _<_}
 use native.Mathlib.Decide.{decLt}
 use native.Mathlib.Omega.{arith}
 use lib.ListN.{length, drop, length-drop, take-append-drop, drop-of-length-le}
-use lib.Seq.{drop-drop}
-use Rattle.law.specs.Document.{TermValues}
-use Rattle.law.specs.Book.{BookYear, nextYear, yearSize, leastAfter, yearFrom, bookFrom, bookOf, nextAt, partsFrom, partsOf, together, yearCount, termsOf, bytesOf}
+use lib.Seq.{drop-at}
+use Rattle.law.specs.Index.{yearIndex}
+use Rattle.law.specs.Book.{BookYear, nextYear, yearSize, leastAfter, yearFrom, bookFrom, bookOf, nextAt, partsFrom, partsOf, together, bytesOf}
 use Rattle.book.proofs.YearSteps.{sound-year}
-use Rattle.book.proofs.BookSteps.{Moved, moved, next-end, next-sound, book-none, book-step, book-more, isSound, endOf, and-sound}
-use Rattle.book.proofs.ThereAndBack.{Fits, written-sound, bytes-number, bytes-size}
+use Rattle.book.proofs.BookSteps.{Moved, moved, next-end, next-in, book-none, book-step, book-more, isSound, endOf, and-sound}
+use Rattle.book.proofs.WrittenIsRead.{bytes-before, bytes-long, Fits, written-sound, bytes-number, bytes-size}
 
 -- ---- the parts
 
@@ -29,8 +29,8 @@ handed s at least h o =
     let b = drop at s in
     let l : 0 < length b = simp length-drop (omega arith) in
     let a = and-sound (yearFrom least at b) (bookFrom (leastAfter b) (at + yearSize b) (drop (yearSize b) b)) (rw (book-step least at b l) at o) in
-    let q = sym (next-sound s at least h (endOf (yearFrom least at b)) (leastAfter b) (a .0) refl) in
-    let m = moved s at least h (endOf (yearFrom least at b)) (leastAfter b) q in
+    let q = sym (next-in s at least h (sym (a .0))) in
+    let m = moved s at least (endOf (yearFrom least at b)) (leastAfter b) q in
     record { end = endOf (yearFrom least at b); after = leastAfter b; next = q; went = m; sound-on = rw (m .book) at o }
 
 pub by-dec : {P Q : Type 0} → Dec P → (P → Q) → ((P → ⊥) → Q) → Q
@@ -63,20 +63,7 @@ allOf (v ∷ vs) = bytesOf v (allOf vs)
 -- years that may be written, their numbers rising from least on
 abbrev pub Rising : ℕ → List BookYear → Type 0
 Rising least [] = Unit
-Rising least (v ∷ vs) = Fits v × ((least ≤ yearCount (v .yearN)) × Rising (yearCount (v .yearN) + 1) vs)
-
-terms-drop : (ts : List TermValues) (k : ℕ) (r : List ℕ) → drop (length ts * 6) (termsOf k ts r) ≡ r
-unfolding termsOf
-terms-drop [] k r = refl
-terms-drop (t ∷ ts) k r =
-    let e : suc (length ts) * 6 ≡ 6 + length ts * 6 = omega arith in
-    rw e (sym (drop-drop (length ts * 6) 6 (termsOf k (t ∷ ts) r)) ∙ terms-drop ts (suc k) r)
-
-year-drop : (v : BookYear) (r : List ℕ) → Fits v → drop 149 (bytesOf v r) ≡ r
-unfolding bytesOf
-year-drop v r f =
-    let e : 144 ≡ length (v .yearTerms) * 6 = omega (arith, f .all) in
-    ap (λ (i : ℕ). drop i (termsOf 0 (v .yearTerms) r)) e ∙ terms-drop (v .yearTerms) 0 r
+Rising least (v ∷ vs) = Fits v × ((least ≤ yearIndex (v .yearN)) × Rising (yearIndex (v .yearN) + 1) vs)
 
 pub rising-accepted : (vs : List BookYear) (least at : ℕ) → Rising least vs → isSound (bookFrom least at (allOf vs)) ≡ true
 unfolding allOf
@@ -87,6 +74,6 @@ rising-accepted (v ∷ vs) least at h =
     let b = bytesOf v r in
     let y = written-sound v r f least (h .1 .0) in
     let m = book-more least at b y (at + yearSize b) (sound-year least at b y) in
-    let n : leastAfter b ≡ yearCount (v .yearN) + 1 = ap (λ (x : ℕ). x + 1) (bytes-number v r f) in
-    let d : drop (yearSize b) b ≡ r = ap (λ (z : ℕ). drop (z + 144) b) (bytes-size v r f) ∙ year-drop v r f in
-    rw (m, n, d) (rising-accepted vs (yearCount (v .yearN) + 1) (at + yearSize b) (h .1 .1))
+    let n : leastAfter b ≡ yearIndex (v .yearN) + 1 = ap (λ (x : ℕ). x + 1) (bytes-number v r f) in
+    let d : drop (yearSize b) b ≡ r = ap (λ (z : ℕ). drop (z + 144) b) (bytes-size v r f) ∙ (ap (drop 149) (bytes-before v r) ∙ drop-at (bytesOf v []) r 149 (bytes-long v (f .all))) in
+    rw (m, n, d) (rising-accepted vs (yearIndex (v .yearN) + 1) (at + yearSize b) (h .1 .1))

@@ -8,14 +8,16 @@ use native.Mathlib.Omega.{arith}
 use borrow.Author.Tests.{le-ltb}
 use lib.IntN.{ℤ}
 use Rattle.reasoning.proofs.Whole.{is-pos, is-neg, is-le, ltZ-is}
-use Rattle.law.specs.Document.{epicycles, badYear, badDay, badMinute, dayName, mansion, termDay, termMinute, TermValues, termValues, inOrder}
+use Rattle.reasoning.specs.InOrder.{inOrder}
+use Rattle.law.specs.Document.{epicycles, badYear, badDay, badMinute, dayName, mansion, termDay, termMinute, TermValues, termValues}
 use Rattle.law.specs.Book.{badTermValues, anyBad, badValues, workedYear}
 use Rattle.law.proofs.Floor.{floor-less}
 use Rattle.motion.specs.Working.{lift, markOf, placeOf}
 use Rattle.motion.proofs.OneDay.{term-day}
 use Rattle.motion.proofs.TermBridge.{term-day-is, term-minute-is}
 use Rattle.motion.proofs.Walk.{dayOf, walk}
-use Rattle.motion.proofs.Years.{InYears, in-years, yearOf, year-is, year-le}
+use Rattle.law.specs.Index.{yearIndex}
+use Rattle.motion.proofs.Years.{InYears, in-years, year-is, year-le}
 use Rattle.book.proofs.WriteAnswers.{terms-decide}
 
 name-less : (N : ℤ) → dayName N < 60
@@ -41,11 +43,11 @@ module _ (e : ℕ) (o : e ≤ epicycles) (N : ℤ) (h : badYear N ≡ false) (k 
   day-fits =
       let g = term-day-is (year-is years) e (year-le years) k o in
       let m = is-le g (is-pos 369) (term-day e o N years k l .most) in
-      rw (ltZ-is g (is-neg (is-pos 4)), ltZ-is (is-pos 370) g, le-ltb (dayOf e (yearOf N) (markOf k) + 4) (0 + 4) (omega arith), le-ltb (370 + 4) (dayOf e (yearOf N) (markOf k) + 0) (omega arith))
+      rw (ltZ-is g (is-neg (is-pos 4)), ltZ-is (is-pos 370) g, le-ltb (dayOf e (yearIndex N) (markOf k) + 4) (0 + 4) (omega arith), le-ltb (370 + 4) (dayOf e (yearIndex N) (markOf k) + 0) (omega arith))
 
   minute-fits : badMinute (termMinute e N k) ≡ false
   minute-fits =
-      let y = yearOf N in
+      let y = yearIndex N in
       let w = walk e o y (markOf k) in
       let d = dayOf e y (markOf k) in
       let p : termMinute e N k < 1_440 =

@@ -1,25 +1,29 @@
 -- What the writer of values answers, refusal by refusal, and what the buffer then holds. Assumes nothing.
 use mathlib.Core.Bool.{true, false}
-use mathlib.Core.List.{List, _∷_, _++_}
+use mathlib.Core.List.{List}
 use mathlib.Core.Path.{_≡_, sym, _∙_, ap}
 use Prim.Native.Nat.{ℕ, _≤_, _<_}
 use borrow.Author.Tests.{lt-ltb, le-ltb}
-use lib.ListN.{length, take, drop}
-use lib.Seq.{drop-drop}
-use Rattle.law.specs.Answer.{Answer, value, refused, done, afterwards}
+use lib.ListN.{length, drop}
+use Rattle.reasoning.specs.Answer.{Answer, value, refused, done, afterwards}
 use Rattle.law.specs.Document.{badYear}
-use Rattle.law.specs.Book.{BookYear, twoOf, termsOf, bytesOf, yearCount, anyBad, badValues, writeAnswer}
+use Rattle.law.specs.Book.{BookYear, bytesOf, anyBad, badValues, writeAnswer}
+use Rattle.units.specs.declared.refusal.Refusal.{Refusal}
+use Rattle.units.specs.Said.{numberOf}
+use Rattle.book.specs.declared.write.Written.{Written}
+use Rattle.book.specs.declared.write.Written.the-variants as written
+use Rattle.book.specs.Told.{Told}
 
--- an answer tells what is said of it, and what the buffer holds
-pub record Told (b c : List ℕ) (said : Answer Unit) (answer : Answer (List ℕ)) : Type 0 where
-  pub says : said ≡ done answer
-  pub holds : c ≡ afterwards b answer
+module _ {answer : List ℕ → Answer (List ℕ)} (b : List ℕ) where
+  pub tell-refused : {r : Refusal} → answer b ≡ refused (numberOf r) → Told answer b b (written.Refused r)
+  tell-refused e = record { says = ap done (sym e); holds = ap (afterwards b) (sym e) }
 
-pub tell-refused : (b : List ℕ) {n : ℕ} {answer : Answer (List ℕ)} → answer ≡ refused n → Told b b (refused n) answer
-tell-refused b e = record { says = ap done (sym e); holds = ap (afterwards b) (sym e) }
+  pub tell-done : {c : List ℕ} → answer b ≡ value c → Told answer b c written.Done
+  tell-done e = record { says = ap done (sym e); holds = ap (afterwards b) (sym e) }
 
-pub tell-done : (b : List ℕ) {c : List ℕ} {answer : Answer (List ℕ)} → answer ≡ value c → Told b c (value tt) answer
-tell-done b e = record { says = ap done (sym e); holds = ap (afterwards b) (sym e) }
+  -- an equal answer tells the same
+  pub tell-as : {answer′ : List ℕ → Answer (List ℕ)} {c : List ℕ} {r : Written} → answer′ b ≡ answer b → Told answer′ b c r → Told answer b c r
+  tell-as e t = record { says = t .says ∙ ap done e; holds = t .holds ∙ ap (afterwards b) e }
 
 module _ (v : BookYear) where
   pub name-bad : 59 < v .yearName → badValues v ≡ true
@@ -57,12 +61,3 @@ module _ (v : BookYear) where
           pub write-done : badValues v ≡ false → writeAnswer v b ≡ value (bytesOf v (drop 149 b))
           unfolding writeAnswer
           write-done f = rw (e, le-ltb (length (v .yearTerms)) 24 g, le-ltb (length b) 149 h, f)
-
-  -- the head, and then the terms after it
-  pub put-year : (b c d : List ℕ) {n : ℕ} → n ≡ yearCount (v .yearN) → c ≡ 1 ∷ twoOf n (v .yearName ∷ v .yearMansion ∷ drop 5 b)
-      → d ≡ take 5 c ++ termsOf 0 (v .yearTerms) (drop 149 c) → d ≡ bytesOf v (drop 149 b)
-  unfolding bytesOf
-  put-year b c d p q r =
-      let front = ap (take 5) q in
-      let later = ap (drop 149) q ∙ drop-drop 144 5 b in
-      r ∙ rw (front, later, p)

@@ -1,14 +1,12 @@
--- A year's check goes one record further at a time; what an accepted year tells; an accepted year stays so whatever follows it.
--- Assumes nothing.
-use mathlib.Core.List.{List, [], _∷_, _++_}
+-- A year's check goes one record further at a time; what an accepted year tells. Assumes nothing.
+use mathlib.Core.List.{List, [], _∷_}
 use mathlib.Core.Path.{_≡_, refl, sym, _∙_, ap}
 use Prim.Native.Nat.{ℕ, zero, suc, _+_, _-_, _*_, _≤_, _<_}
 use native.Mathlib.Omega.{arith}
 use native.Mathlib.Numerals.{add-one}
-use lib.ListN.{length, getD, drop, length-drop, length-append, List·getD-append}
-use lib.Seq.{drop-append-le}
-use Rattle.law.specs.Answer.{Answer, value, refused}
-use Rattle.law.specs.Book.{Due, aHead, aTerm, Checked, sound, faulty, recordSize, headSize, yearSize, recordAnswer, orFaulty, recordThen, termsFrom, yearFrom}
+use lib.ListN.{length, drop, length-drop}
+use Rattle.reasoning.specs.Answer.{Answer, value, refused}
+use Rattle.law.specs.Book.{Due, aHead, aTerm, Checked, sound, faulty, headSize, yearSize, recordAnswer, orFaulty, recordThen, termsFrom, yearFrom}
 use Rattle.book.proofs.RecordAnswers.{SoundHead, SoundTerm, head-sound, sound-head, term-sound, sound-term}
 
 -- ---- one record
@@ -121,46 +119,3 @@ module _ (least at : ℕ) (b : List ℕ) where
 
 pub year-room : (least : ℕ) (b : List ℕ) → SoundYear least b → yearSize b ≤ length b
 year-room least b g = let s = g .head in omega (arith, terms-room 24 0 (drop (headSize b) b) (g .terms), length-drop (headSize b) b)
-
--- ---- what follows changes nothing
-
-module _ (b rest : List ℕ) where
-  at-front : (i : ℕ) → i < length b → getD (b ++ rest) i 0 ≡ getD b i 0
-  at-front i h = List·getD-append b rest 0 i h
-
-  term-before : (k : ℕ) → SoundTerm k b → SoundTerm k (b ++ rest)
-  term-before k s =
-      record {
-        kind = at-front 0 (omega arith) ∙ s .kind;
-        room = omega (arith, length-append b rest);
-        turn = at-front 1 (omega arith) ∙ s .turn;
-        day = omega (arith, at-front 2 (omega arith), at-front 3 (omega arith));
-        minute = omega (arith, at-front 4 (omega arith), at-front 5 (omega arith));
-      }
-
-  head-before : (least : ℕ) → SoundHead least b → SoundHead least (b ++ rest)
-  head-before least s =
-      let k = at-front 0 (omega arith) in
-      record {
-        kind = k ∙ s .kind;
-        size = ap recordSize k ∙ s .size;
-        room = omega (arith, length-append b rest);
-        turn = omega (arith, at-front 1 (omega arith), at-front 2 (omega arith));
-        number = omega (arith, at-front 1 (omega arith), at-front 2 (omega arith));
-        name = omega (arith, at-front 3 (omega arith));
-        mansion = omega (arith, at-front 4 (omega arith));
-      }
-
-terms-before : (n k : ℕ) (b rest : List ℕ) → SoundTerms n k b → SoundTerms n k (b ++ rest)
-unfolding SoundTerms
-terms-before zero k b rest g = tt
-terms-before (suc n) k b rest g =
-    let s = g .0 in
-    (term-before b rest k s, rw (drop-append-le 6 b rest (s .room)) (terms-before n (suc k) (drop 6 b) rest (g .1)))
-
-pub year-before : (least : ℕ) (b rest : List ℕ) → SoundYear least b → SoundYear least (b ++ rest)
-year-before least b rest g =
-    let s = g .head in
-    let k = at-front b rest 0 (omega arith) in
-    let l : headSize b ≤ length b = omega arith in
-    record { head = head-before b rest least s; terms = rw (k, drop-append-le (headSize b) b rest l) (terms-before 24 0 (drop (headSize b) b) rest (g .terms)) }

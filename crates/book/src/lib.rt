@@ -6,7 +6,7 @@ mod read;
 mod reader;
 mod record;
 mod seek;
-mod worked;
+mod worked_year;
 mod write;
 mod year;
 
@@ -23,7 +23,7 @@ pub use reader::open;
 pub use seek::Sought;
 pub use seek::seek_year;
 pub use seek::year_part;
-pub use worked::write_year;
+pub use worked_year::write_year;
 pub use write::Written;
 pub use write::write_values;
 pub use write::write_year_from;

@@ -6,25 +6,19 @@ use crate::year::BookAnswer;
 use crate::year::year_at;
 use sun::Records;
 use sun::TermRecord;
+use sun::ZERO_RECORD;
 use sun::store_records;
 use units::Refusal;
 ghost use mathlib.Core.List.{map};
 ghost use mathlib.Core.Path.{_≡_};
 ghost use Prim.Native.Nat.{_+_, _*_, _≤_};
 ghost use lib.ListN.{length, drop};
-ghost use Rattle.law.specs.Answer.{value};
-ghost use Rattle.law.specs.Document.{inOrder, filled};
-ghost use Rattle.law.specs.Book.{yearFrom, termIn, readAnswer, headRead, termsRead};
-ghost use Rattle.sun.specs.Said.{valuesOf, heldTerms};
-ghost use Rattle.sun.specs.Records.{keeps};
-ghost use Rattle.book.specs.Said.{saidChecked, saidReadAnswer, headGiven, unread};
-
-// The year by value: the byte after it, or the refusal and its byte; and its head and terms, all 0 on a refusal.
-pub struct ReadValues {
-    pub answer: BookAnswer,
-    pub head: Head,
-    pub at: [TermRecord; 24],
-}
+ghost use Rattle.reasoning.specs.Answer.{value};
+ghost use Rattle.reasoning.specs.InOrder.{inOrder};
+ghost use Rattle.law.specs.Book.{yearFrom, termIn, readAnswer};
+ghost use Rattle.sun.specs.Said.{valuesOfTerm};
+ghost use Rattle.book.specs.Said.{unread};
+ghost use Rattle.book.specs.Told.{ValuesRead, ListRead};
 
 // The byte after the year; or the book's refusal, and the byte where the record at fault starts; or a refusal with no byte.
 pub enum ReadAnswer {
@@ -39,17 +33,11 @@ pub struct ReadYear {
     pub head: Head,
 }
 
-// A year read, and the records to be stored: none on a refusal.
-struct FoundYear {
-    year: ReadYear,
-    records: Records,
+// The same and the terms by value, each count 0: all 24, or none on a refusal.
+pub struct ReadValues {
+    pub year: ReadYear,
+    pub records: Records,
 }
-
-const BLANK: TermRecord = TermRecord {
-    day: 0,
-    minute: 0,
-    count: 0,
-};
 
 const NO_HEAD: Head = Head {
     n: 0,
@@ -60,7 +48,7 @@ const NO_HEAD: Head = Head {
 // The term whose record starts at a byte.
 fn term_at(bytes: &[u8], at: usize) -> TermRecord
     requires { ⌜ at + 6 ≤ length (now bytes) ⌝ }
-    ensures { λ r. ⌜ valuesOf r ≡ termIn (drop at (now (bytes .entry))) ⌝ }
+    ensures { λ r. ⌜ valuesOfTerm r ≡ termIn (drop at (now (bytes .entry))) ⌝ }
 {
     TermRecord {
         day: (two_at(bytes, at + 2) as i64) - 4,
@@ -72,9 +60,9 @@ fn term_at(bytes: &[u8], at: usize) -> TermRecord
 // The 24 terms that follow a head of 5 bytes.
 fn terms_at(bytes: &[u8]) -> [TermRecord; 24]
     requires { ⌜ 149 ≤ length (now bytes) ⌝ }
-    ensures { λ r. ⌜ map valuesOf r ≡ inOrder (λ k. termIn (drop (5 + k * 6) (now (bytes .entry)))) 24 ⌝ }
+    ensures { λ r. ⌜ map valuesOfTerm r ≡ inOrder (λ k. termIn (drop (5 + k * 6) (now (bytes .entry)))) 24 ⌝ }
 {
-    let mut terms = [BLANK; 24];
+    let mut terms = [ZERO_RECORD; 24];
     let mut k: usize = 0;
     while k < 24 {
         terms[k] = term_at(bytes, 5 + k * 6);
@@ -83,9 +71,24 @@ fn terms_at(bytes: &[u8]) -> [TermRecord; 24]
     terms
 }
 
-// Reads the year by value, each count 0.
+// A refusal: all are 0.
+fn unread(answer: ReadAnswer) -> ReadValues
+    ensures { λ r. ⌜ r ≡ unread answer ⌝ }
+{
+    let year = ReadYear {
+        answer,
+        head: NO_HEAD,
+    };
+    let records = Records {
+        count: 0,
+        at: [ZERO_RECORD; 24],
+    };
+    ReadValues { year, records }
+}
+
+// Reads the year by value. The answer is never a refusal with no byte.
 pub fn read_values(bytes: &[u8]) -> ReadValues
-    ensures { λ r. ⌜ (saidChecked (r .answer) ≡ yearFrom 0 0 (now (bytes .entry))) × (headGiven (r .head) ≡ headRead (value (yearFrom 0 0 (now (bytes .entry)))) (now (bytes .entry))) × (map valuesOf (r .at) ≡ heldTerms (termsRead (value (yearFrom 0 0 (now (bytes .entry)))) (now (bytes .entry)))) ⌝ }
+    ensures { λ r. ⌜ ValuesRead (now (bytes .entry)) (value (yearFrom 0 0 (now (bytes .entry)))) r ⌝ }
 {
     match year_at(bytes, 0, 0) {
         BookAnswer::Sound(end) => {
@@ -95,64 +98,32 @@ pub fn read_values(bytes: &[u8]) -> ReadValues
                 mansion: wide(bytes[4]),
             };
             let at = terms_at(bytes);
-            ReadValues {
-                answer: BookAnswer::Sound(end),
-                head,
-                at,
-            }
-        }
-        BookAnswer::Refused(refusal, byte) => ReadValues {
-            answer: BookAnswer::Refused(refusal, byte),
-            head: NO_HEAD,
-            at: [BLANK; 24],
-        },
-    }
-}
-
-// A refusal: all are 0.
-fn unread_for(answer: ReadAnswer) -> FoundYear
-    ensures { λ r. ⌜ r ≡ unread answer ⌝ }
-{
-    let year = ReadYear {
-        answer,
-        head: NO_HEAD,
-    };
-    let records = Records {
-        count: 0,
-        at: [BLANK; 24],
-    };
-    FoundYear { year, records }
-}
-
-// The year for a list of so many records.
-fn read_for(bytes: &[u8], room: usize) -> FoundYear
-    ensures { λ r. ⌜ (saidReadAnswer (r .year .answer) ≡ readAnswer (now (bytes .entry)) room) × (headGiven (r .year .head) ≡ headRead (readAnswer (now (bytes .entry)) room) (now (bytes .entry))) × keeps (r .records) (termsRead (readAnswer (now (bytes .entry)) room) (now (bytes .entry))) × (r .records .count ≤ room) ⌝ }
-{
-    if room < 24 {
-        return unread_for(ReadAnswer::Refused(Refusal::TooShort));
-    }
-    let read = read_values(bytes);
-    let answer = read.answer;
-    match answer {
-        BookAnswer::Sound(end) => {
-            let head = read.head;
-            let at = read.at;
             let year = ReadYear {
                 answer: ReadAnswer::Sound(end),
                 head,
             };
             let records = Records { count: 24, at };
-            FoundYear { year, records }
+            ReadValues { year, records }
         }
-        BookAnswer::Refused(refusal, byte) => unread_for(ReadAnswer::Unsound(refusal, byte)),
+        BookAnswer::Refused(refusal, byte) => unread(ReadAnswer::Unsound(refusal, byte)),
     }
+}
+
+// The year for a list of so many records.
+fn read_for(bytes: &[u8], room: usize) -> ReadValues
+    ensures { λ r. ⌜ ValuesRead (now (bytes .entry)) (readAnswer (now (bytes .entry)) room) r ⌝ }
+{
+    if room < 24 {
+        return unread(ReadAnswer::Refused(Refusal::TooShort));
+    }
+    read_values(bytes)
 }
 
 // Its terms go into the first 24 records of the list, each count 0. On a refusal the list stays as it was.
 pub fn read_year(bytes: &[u8], list: &mut [TermRecord]) -> ReadYear
-    ensures { λ r. ⌜ (saidReadAnswer (r .answer) ≡ readAnswer (now (bytes .entry)) (length (now (list .entry)))) × (headGiven (r .head) ≡ headRead (readAnswer (now (bytes .entry)) (length (now (list .entry)))) (now (bytes .entry))) × (map valuesOf (now (list .exit)) ≡ filled (termsRead (readAnswer (now (bytes .entry)) (length (now (list .entry)))) (now (bytes .entry))) (map valuesOf (now (list .entry)))) ⌝ }
+    ensures { λ r. ⌜ ListRead (now (bytes .entry)) (now (list .entry)) (now (list .exit)) r ⌝ }
 {
-    let found = read_for(bytes, list.len());
-    store_records(list, found.records);
-    found.year
+    let read = read_for(bytes, list.len());
+    store_records(list, read.records);
+    read.year
 }

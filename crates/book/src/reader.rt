@@ -3,10 +3,7 @@
 use crate::year::Next;
 use crate::year::next_at;
 ghost use mathlib.Core.Path.{_≡_};
-ghost use denote.Ref.{ptr};
-ghost use Rattle.law.specs.Book.{nextAt, byteAfter, leastThen};
-ghost use Rattle.book.specs.Said.{saidNext};
-ghost use Rattle.book.specs.Reader.{placeIn, opened, finds, handsOut, handsFrom, goneOn, bytesFrom, startFrom};
+ghost use Rattle.book.specs.Reader.{opened, PartIs, HandsOn, StepIs, bytesFrom, startFrom};
 
 // The book, the byte to go on from, and the last year as the least N + 2,000 that may follow it: 0 before the first.
 pub struct Reader<'a> {
@@ -30,7 +27,7 @@ struct Step {
 
 // Where no year is found the numbers stay, so that the next call finds the same.
 fn step_at(book: &[u8], at: usize, least: u64) -> Step
-    ensures { λ r. ⌜ (saidNext (r .what) ≡ nextAt (now (book .entry)) at least) × (r .to ≡ byteAfter at (saidNext (r .what))) × (r .least ≡ leastThen least (saidNext (r .what))) ⌝ }
+    ensures { λ r. ⌜ StepIs (now (book .entry)) at least r ⌝ }
 {
     match next_at(book, at, least) {
         Next::Year(end, after) => Step {
@@ -53,14 +50,10 @@ fn step_at(book: &[u8], at: usize, least: u64) -> Step
 
 // The bytes between two places; where there are none, the empty part at the start.
 fn part_between(book: &[u8], from: usize, to: usize) -> &[u8]
-    ensures { λ r. ⌜ (now r ≡ bytesFrom (now (book .entry)) from to) × (ptr r ≡ placeIn (book .entry) (startFrom (now (book .entry)) from to)) ⌝ }
+    ensures { λ r. ⌜ PartIs (book .entry) (bytesFrom (now (book .entry)) from to) (startFrom (now (book .entry)) from to) r ⌝ }
 {
-    if from < to {
-        if to <= book.len() {
-            &book[from..to]
-        } else {
-            &book[0..0]
-        }
+    if from < to && to <= book.len() {
+        &book[from..to]
     } else {
         &book[0..0]
     }
@@ -79,7 +72,7 @@ pub fn open<'a>(book: &'a [u8]) -> Reader<'a>
 
 // The next year, or the end, or a refusal; the reader then stays at that end or refusal.
 pub fn next<'s, 'a>(r: &'s mut Reader<'a>) -> Handed<'a>
-    ensures { λ h. ⌜ (saidNext (h .what) ≡ finds (now (r .entry))) × (now (h .part) ≡ handsOut (now (r .entry))) × (ptr (h .part) ≡ handsFrom (now (r .entry))) × (now (r .exit) ≡ goneOn (now (r .entry))) ⌝ }
+    ensures { λ h. ⌜ HandsOn (now (r .entry)) (now (r .exit)) h ⌝ }
 {
     let book = r.book;
     let at = r.at;

@@ -4,11 +4,9 @@ use crate::bytes::wide;
 use units::Refusal;
 ghost use mathlib.Core.Path.{_≡_};
 ghost use Prim.Native.Nat.{_<_};
-ghost use lib.Dec.{eqb, ltb};
 ghost use lib.ListN.{length};
-ghost use Rattle.law.specs.Answer.{refused, refusing};
 ghost use Rattle.law.specs.Book.{aHead, aTerm, recordSize, recordAnswer};
-ghost use Rattle.book.specs.Said.{saidRecord};
+ghost use Rattle.book.specs.Said.{saidRecord, otherKind};
 
 pub enum RecordAnswer {
     Sound,
@@ -29,17 +27,17 @@ pub(crate) fn record_size(kind: u8) -> usize
 }
 
 // Of a record of another kind than the one due, with so many bytes left from its first on: 8, 7 or 10.
-fn other_kind(kind: u8, left: usize) -> Refusal
-    ensures { λ r. ⌜ saidRecord (RecordAnswer.Refused r) ≡ refusing (eqb (recordSize kind) 0) 8 (refusing (ltb left (recordSize kind)) 7 (refused 10)) ⌝ }
+fn other_kind(kind: u8, left: usize) -> RecordAnswer
+    ensures { λ r. ⌜ saidRecord r ≡ otherKind kind left ⌝ }
 {
     let size = record_size(kind);
     if size == 0 {
-        return Refusal::KindUnknown;
+        return RecordAnswer::Refused(Refusal::KindUnknown);
     }
     if left < size {
-        return Refusal::RecordCutOff;
+        return RecordAnswer::Refused(Refusal::RecordCutOff);
     }
-    Refusal::OutOfTurn
+    RecordAnswer::Refused(Refusal::OutOfTurn)
 }
 
 // The record at the start of b, where a head is due whose N + 2,000 is at least so much.
@@ -49,16 +47,16 @@ pub(crate) fn head_answer(b: &[u8], least: u64) -> RecordAnswer
 {
     let kind = b[0];
     if kind != 1 {
-        return RecordAnswer::Refused(other_kind(kind, b.len()));
+        return other_kind(kind, b.len());
     }
     if b.len() < 5 {
         return RecordAnswer::Refused(Refusal::RecordCutOff);
     }
-    let number = two_at(b, 1);
-    if number < least {
+    let y = two_at(b, 1);
+    if y < least {
         return RecordAnswer::Refused(Refusal::OutOfTurn);
     }
-    if 4_000 < number {
+    if 4_000 < y {
         return RecordAnswer::Refused(Refusal::FieldOutside);
     }
     if 59 < b[3] {
@@ -77,7 +75,7 @@ pub(crate) fn term_answer(b: &[u8], k: u64) -> RecordAnswer
 {
     let kind = b[0];
     if kind != 2 {
-        return RecordAnswer::Refused(other_kind(kind, b.len()));
+        return other_kind(kind, b.len());
     }
     if b.len() < 6 {
         return RecordAnswer::Refused(Refusal::RecordCutOff);

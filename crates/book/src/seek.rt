@@ -7,10 +7,9 @@ use units::Number;
 use units::Refusal;
 ghost use mathlib.Core.Path.{_≡_};
 ghost use Prim.Native.Nat.{_≤_};
-ghost use denote.Ref.{ptr};
-ghost use Rattle.law.specs.Book.{bookOf, seekIn, ifSound, seekOf, partOf, partStart};
+ghost use Rattle.law.specs.Book.{bookOf, seekIn, ifSound, seekOf};
 ghost use Rattle.book.specs.Said.{saidSought};
-ghost use Rattle.book.specs.Reader.{placeIn};
+ghost use Rattle.book.specs.Reader.{PartSought};
 
 // Where the year's part starts and ends; or the book's refusal and its byte; or refusal 1 or 12.
 pub enum Sought {
@@ -19,17 +18,17 @@ pub enum Sought {
     Refused(Refusal),
 }
 
-// The year counted n. Where it is found, the rest of the book is still checked.
-fn seek(book: &[u8], n: u64) -> Sought
-    requires { ⌜ n ≤ 4_000 ⌝ }
-    ensures { λ r. ⌜ saidSought r ≡ ifSound (bookOf (now (book .entry))) (seekIn n 0 (now (book .entry))) ⌝ }
+// The year whose N + 2,000 is y. Where it is found, the rest of the book is still checked.
+fn seek(book: &[u8], y: u64) -> Sought
+    requires { ⌜ y ≤ 4_000 ⌝ }
+    ensures { λ r. ⌜ saidSought r ≡ ifSound (bookOf (now (book .entry))) (seekIn y 0 (now (book .entry))) ⌝ }
 {
     let mut at = 0;
     let mut least = 0;
-    while at < book.len() {
+    loop {
         match next_at(book, at, least) {
             Next::Year(end, after) => {
-                if after == n + 1 {
+                if after == y + 1 {
                     return match check_from(book, end, after) {
                         BookAnswer::Sound(_) => Sought::Found(at, end),
                         BookAnswer::Refused(refusal, byte) => Sought::Unsound(refusal, byte),
@@ -46,25 +45,23 @@ fn seek(book: &[u8], n: u64) -> Sought
             }
         }
     }
-    Sought::Refused(Refusal::YearAbsent)
 }
 
 pub fn seek_year(book: &[u8], n: i64) -> Sought
     ensures { λ r. ⌜ saidSought r ≡ seekOf (now (book .entry)) n ⌝ }
 {
-    let Number::Is(count) = units::year_index(n) else {
+    let Number::Is(y) = units::year_index(n) else {
         return Sought::Refused(Refusal::YearOutside);
     };
-    seek(book, count)
+    seek(book, y)
 }
 
 // The year's part of the lent book, empty where no year is handed out.
 pub fn year_part(book: &[u8], n: i64) -> &[u8]
-    ensures { λ r. ⌜ (now r ≡ partOf (now (book .entry)) (seekOf (now (book .entry)) n)) × (ptr r ≡ placeIn (book .entry) (partStart (seekOf (now (book .entry)) n))) ⌝ }
+    ensures { λ r. ⌜ PartSought (book .entry) (seekOf (now (book .entry)) n) r ⌝ }
 {
-    match seek_year(book, n) {
-        Sought::Found(start, end) => &book[start..end],
-        Sought::Unsound(_, _) => &book[0..0],
-        Sought::Refused(_) => &book[0..0],
-    }
+    let Sought::Found(start, end) = seek_year(book, n) else {
+        return &book[0..0];
+    };
+    &book[start..end]
 }

@@ -10,12 +10,13 @@ ghost use mathlib.Core.List.{_∷_, _++_, map};
 ghost use mathlib.Core.Path.{_≡_};
 ghost use Prim.Native.Nat.{_+_, _≤_, _<_};
 ghost use lib.ListN.{length, take, drop};
-ghost use Rattle.law.specs.Answer.{done, afterwards};
 ghost use Rattle.law.specs.Document.{badDay};
-ghost use Rattle.law.specs.Book.{twoOf, termsOf, dayCount, badTermValues, anyBad, writeAnswer};
-ghost use Rattle.sun.specs.Said.{valuesOf};
-ghost use Rattle.sun.specs.Records.{held};
-ghost use Rattle.book.specs.Said.{saidWritten, givenYear};
+ghost use Rattle.law.specs.Index.{dayIndex};
+ghost use Rattle.law.specs.Book.{twoOf, termsOf, badTermValues, anyBad, writeAnswer};
+ghost use Rattle.sun.specs.Said.{valuesOfTerm};
+ghost use Rattle.sun.specs.Records.{meant};
+ghost use Rattle.book.specs.Said.{givenYear};
+ghost use Rattle.book.specs.Told.{Told, termRecord, yearRecords};
 
 pub enum Written {
     Done,
@@ -24,7 +25,7 @@ pub enum Written {
 
 // A day or a minute that may not be written.
 fn is_bad(term: TermRecord) -> bool
-    ensures { λ r. ⌜ r ≡ badTermValues (valuesOf term) ⌝ }
+    ensures { λ r. ⌜ r ≡ badTermValues (valuesOfTerm term) ⌝ }
 {
     match units::day_index(term.day) {
         Number::Is(_) => 1_439 < term.minute,
@@ -33,7 +34,7 @@ fn is_bad(term: TermRecord) -> bool
 }
 
 fn any_bad(terms: [TermRecord; 24]) -> bool
-    ensures { λ r. ⌜ r ≡ anyBad (map valuesOf terms) ⌝ }
+    ensures { λ r. ⌜ r ≡ anyBad (map valuesOfTerm terms) ⌝ }
 {
     let mut i: usize = 0;
     while i < 24 {
@@ -46,55 +47,64 @@ fn any_bad(terms: [TermRecord; 24]) -> bool
 }
 
 // d + 4.
-fn day_count(d: i64) -> u64
+fn day_index(d: i64) -> u64
     requires { ⌜ badDay d ≡ false ⌝ }
-    ensures { λ r. ⌜ r ≡ dayCount d ⌝ }
+    ensures { λ r. ⌜ r ≡ dayIndex d ⌝ }
 {
     (d + 4) as u64
 }
 
-fn put_head(buf: &mut [u8], number: u64, day_name: u64, mansion: u64)
+fn put_head(buf: &mut [u8], y: u64, day_name: u64, mansion: u64)
     requires { ⌜ (5 ≤ length (now buf)) × («day_name» < 256) × (mansion < 256) ⌝ }
-    ensures { λ _. ⌜ now (buf .exit) ≡ 1 ∷ twoOf number («day_name» ∷ mansion ∷ drop 5 (now (buf .entry))) ⌝ }
+    ensures { λ _. ⌜ now (buf .exit) ≡ 1 ∷ twoOf y («day_name» ∷ mansion ∷ drop 5 (now (buf .entry))) ⌝ }
 {
     buf[0] = 1;
-    buf[1] = (number / 256 % 256) as u8;
-    buf[2] = (number % 256) as u8;
+    buf[1] = (y / 256 % 256) as u8;
+    buf[2] = (y % 256) as u8;
     buf[3] = day_name as u8;
     buf[4] = mansion as u8;
 }
 
-// The term k, its record starting at a byte.
-fn put_term(buf: &mut [u8], at: usize, k: u64, day: u64, minute: u64)
+// The term k on day j - 4, its record starting at a byte.
+fn put_term(buf: &mut [u8], at: usize, k: u64, j: u64, minute: u64)
     requires { ⌜ (at + 6 ≤ length (now buf)) × (k < 256) ⌝ }
-    ensures { λ _. ⌜ now (buf .exit) ≡ take at (now (buf .entry)) ++ (2 ∷ k ∷ twoOf day (twoOf minute (drop (at + 6) (now (buf .entry))))) ⌝ }
+    ensures { λ _. ⌜ now (buf .exit) ≡ take at (now (buf .entry)) ++ termRecord k j minute (drop (at + 6) (now (buf .entry))) ⌝ }
 {
     buf[at] = 2;
     buf[at + 1] = k as u8;
-    buf[at + 2] = (day / 256 % 256) as u8;
-    buf[at + 3] = (day % 256) as u8;
+    buf[at + 2] = (j / 256 % 256) as u8;
+    buf[at + 3] = (j % 256) as u8;
     buf[at + 4] = (minute / 256 % 256) as u8;
     buf[at + 5] = (minute % 256) as u8;
 }
 
 // The 24 terms after a head of 5 bytes.
 fn put_terms(buf: &mut [u8], terms: [TermRecord; 24])
-    requires { ⌜ (149 ≤ length (now buf)) × (anyBad (map valuesOf terms) ≡ false) ⌝ }
-    ensures { λ _. ⌜ now (buf .exit) ≡ take 5 (now (buf .entry)) ++ termsOf 0 (map valuesOf terms) (drop 149 (now (buf .entry))) ⌝ }
+    requires { ⌜ (149 ≤ length (now buf)) × (anyBad (map valuesOfTerm terms) ≡ false) ⌝ }
+    ensures { λ _. ⌜ now (buf .exit) ≡ take 5 (now (buf .entry)) ++ termsOf 0 (map valuesOfTerm terms) (drop 149 (now (buf .entry))) ⌝ }
 {
     let mut k: usize = 0;
     while k < 24 {
         let term = terms[k];
-        put_term(buf, 5 + k * 6, k as u64, day_count(term.day), term.minute);
+        put_term(buf, 5 + k * 6, k as u64, day_index(term.day), term.minute);
         k += 1;
     }
 }
 
+// The head and the terms of a year that may be written.
+pub(crate) fn put_year(buf: &mut [u8], y: u64, day_name: u64, mansion: u64, terms: [TermRecord; 24])
+    requires { ⌜ (149 ≤ length (now buf)) × («day_name» < 256) × (mansion < 256) × (anyBad (map valuesOfTerm terms) ≡ false) ⌝ }
+    ensures { λ _. ⌜ now (buf .exit) ≡ yearRecords y «day_name» mansion (map valuesOfTerm terms) (drop 149 (now (buf .entry))) ⌝ }
+{
+    put_head(buf, y, day_name, mansion);
+    put_terms(buf, terms);
+}
+
 // From the records that are meant.
 fn write_records(head: Head, records: Records, buf: &mut [u8]) -> Written
-    ensures { λ r. ⌜ (saidWritten r ≡ done (writeAnswer (givenYear head (held records)) (now (buf .entry)))) × (now (buf .exit) ≡ afterwards (now (buf .entry)) (writeAnswer (givenYear head (held records)) (now (buf .entry)))) ⌝ }
+    ensures { λ r. ⌜ Told (writeAnswer (givenYear head (meant records))) (now (buf .entry)) (now (buf .exit)) r ⌝ }
 {
-    let Number::Is(number) = units::year_index(head.n) else {
+    let Number::Is(y) = units::year_index(head.n) else {
         return Written::Refused(Refusal::YearOutside);
     };
     if records.count < 24 {
@@ -113,14 +123,13 @@ fn write_records(head: Head, records: Records, buf: &mut [u8]) -> Written
     if any_bad(terms) {
         return Written::Refused(Refusal::FieldOutside);
     }
-    put_head(buf, number, head.day_name, head.mansion);
-    put_terms(buf, terms);
+    put_year(buf, y, head.day_name, head.mansion, terms);
     Written::Done
 }
 
 // Writes a year from its head and its terms, heeding no count. Nothing is written on a refusal.
 pub fn write_values(head: Head, at: [TermRecord; 24], buf: &mut [u8]) -> Written
-    ensures { λ r. ⌜ (saidWritten r ≡ done (writeAnswer (givenYear head at) (now (buf .entry)))) × (now (buf .exit) ≡ afterwards (now (buf .entry)) (writeAnswer (givenYear head at) (now (buf .entry)))) ⌝ }
+    ensures { λ r. ⌜ Told (writeAnswer (givenYear head at)) (now (buf .entry)) (now (buf .exit)) r ⌝ }
 {
     let records = Records { count: 24, at };
     write_records(head, records, buf)
@@ -128,7 +137,7 @@ pub fn write_values(head: Head, at: [TermRecord; 24], buf: &mut [u8]) -> Written
 
 // The same from the first 24 records of a list.
 pub fn write_year_from(head: Head, list: &[TermRecord], buf: &mut [u8]) -> Written
-    ensures { λ r. ⌜ (saidWritten r ≡ done (writeAnswer (givenYear head (take 24 (now (list .entry)))) (now (buf .entry)))) × (now (buf .exit) ≡ afterwards (now (buf .entry)) (writeAnswer (givenYear head (take 24 (now (list .entry)))) (now (buf .entry)))) ⌝ }
+    ensures { λ r. ⌜ Told (writeAnswer (givenYear head (take 24 (now (list .entry))))) (now (buf .entry)) (now (buf .exit)) r ⌝ }
 {
     let records = first_records(list);
     write_records(head, records, buf)

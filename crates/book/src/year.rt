@@ -6,8 +6,7 @@ use crate::record::record_size;
 use crate::record::term_answer;
 use units::Refusal;
 ghost use mathlib.Core.Path.{_≡_};
-ghost use Prim.Native.Nat.{_≤_};
-ghost use lib.ListN.{length, drop};
+ghost use lib.ListN.{drop};
 ghost use Rattle.law.specs.Book.{yearFrom, bookFrom, bookOf, nextAt};
 ghost use Rattle.book.specs.Said.{saidChecked, saidNext};
 
@@ -70,12 +69,11 @@ pub fn next_at(book: &[u8], at: usize, least: u64) -> Next
 
 // The book from a byte on.
 pub(crate) fn check_from(book: &[u8], from: usize, first: u64) -> BookAnswer
-    requires { ⌜ from ≤ length (now book) ⌝ }
     ensures { λ r. ⌜ saidChecked r ≡ bookFrom first from (drop from (now (book .entry))) ⌝ }
 {
     let mut at = from;
     let mut least = first;
-    while at < book.len() {
+    loop {
         match next_at(book, at, least) {
             Next::Year(end, after) => {
                 at = end;
@@ -89,7 +87,6 @@ pub(crate) fn check_from(book: &[u8], from: usize, first: u64) -> BookAnswer
             }
         }
     }
-    BookAnswer::Sound(at)
 }
 
 pub fn check_book(book: &[u8]) -> BookAnswer

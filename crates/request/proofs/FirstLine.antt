@@ -8,7 +8,7 @@ use lib.Dec.{eqb}
 use lib.IntN.{ℤ}
 use lib.ListN.{length, drop, getD, drop-of-length-le}
 use lib.Seq.{drop-cons}
-use Rattle.law.specs.Answer.{Answer, refused}
+use Rattle.reasoning.specs.Answer.{Answer, refused}
 use Rattle.law.specs.Request.{newline, lastLine, linesFrom, firstOf, firstAsks}
 use Rattle.request.specs.declared.line.Line.{Line}
 use Rattle.request.specs.declared.line.Line.the-variants.{Empty, Digits, NoYear}

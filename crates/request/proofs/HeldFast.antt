@@ -6,7 +6,7 @@ use borrow.Fn.Enter.{pair≡}
 use lib.ListN.{length, take, drop, take-append-drop}
 use Rattle.reasoning.proofs.HeldFast.{Held, by-facts, one, one-said}
 use Rattle.units.specs.Said.{saidSigned}
-use Rattle.units.proofs.HeldFast.{signedFrom, signed-back}
+use Rattle.units.proofs.HeldFast.{signedBack, signed-back}
 use Rattle.request.specs.declared.line.Line.{Line}
 use Rattle.request.specs.declared.answers.Fed.{Fed}
 use Rattle.request.specs.declared.first.First.{First}
@@ -42,7 +42,7 @@ one-end {text} {out} {o} {o′} {n} {m} f g =
 
 -- the reading of a first line can be taken back
 firstFrom : Reached → First
-firstFrom (asks asked) = Asked (signedFrom asked)
+firstFrom (asks asked) = Asked (signedBack asked)
 firstFrom (still line) = Open line
 
 first-back : (first : First) → firstFrom (saidFirst first) ≡ first
@@ -56,10 +56,10 @@ pub line-step-held : Held line-step.ended (λ M. line-step.clauses {M = M})
 line-step-held M 𝓤 H A mem run κs a = by-facts 𝓤 (λ z z′ w w′ p q. (one p q, refl))
 
 pub line-end-held : Held line-end.ended (λ M. line-end.clauses {M = M})
-line-end-held M 𝓤 H A mem run κs a = by-facts 𝓤 (λ z z′ w w′ p q. (one-said saidSigned signedFrom signed-back p q, refl))
+line-end-held M 𝓤 H A mem run κs a = by-facts 𝓤 (λ z z′ w w′ p q. (one-said saidSigned signedBack signed-back p q, refl))
 
 pub asked-by-held : Held asked-by.ended (λ M. asked-by.clauses {M = M})
-asked-by-held M 𝓤 H A mem run κs a = by-facts 𝓤 (λ z z′ w w′ p q. (one-said saidSigned signedFrom signed-back p q, refl))
+asked-by-held M 𝓤 H A mem run κs a = by-facts 𝓤 (λ z z′ w w′ p q. (one-said saidSigned signedBack signed-back p q, refl))
 
 pub first-line-held : Held first-line.ended (λ M. first-line.clauses {M = M})
 first-line-held M 𝓤 H A mem run κs a = by-facts 𝓤 (λ z z′ w w′ p q. (one-said saidFirst firstFrom first-back p q, refl))

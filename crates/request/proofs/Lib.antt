@@ -1,5 +1,5 @@
 pub mod ReadLine
 pub mod InBlocks
 pub mod FirstLine
-pub mod FiveBytes
+pub mod OpenLine
 pub mod HeldFast

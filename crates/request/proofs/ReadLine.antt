@@ -6,13 +6,12 @@ use Prim.Native.Nat.{ℕ, zero, suc, _+_, _-_, _*_, _≤_, _<_}
 use native.Mathlib.Nat.{add-zero}
 use native.Mathlib.Numerals.{add-one}
 use native.Mathlib.Omega.{arith}
-use borrow.Author.Tests.{ne-eqb, ltb-true, ltb-false}
+use borrow.Author.Tests.{ne-eqb, ltb-true, ltb-false, lt-ltb, le-ltb}
 use lib.Dec.{ltb, eqb}
 use lib.IntN.{ℤ}
 use lib.ListN.{length, drop, getD, drop-of-length-le}
 use lib.Seq.{drop-cons}
-use Rattle.reasoning.proofs.Choice.{lt-yes, lt-no}
-use Rattle.law.specs.Answer.{refused, refusing}
+use Rattle.reasoning.specs.Answer.{refused, refusing}
 use Rattle.law.specs.Document.{badYear}
 use Rattle.law.specs.Request.{numberFrom, signedBy, oneToFour, lineAsks}
 use Rattle.request.specs.declared.line.Line.{Line}
@@ -28,8 +27,8 @@ by-case false f g = g refl
 pub outside-by-size : (minus : Bool) (n : ℕ) → badYear (signedBy minus n) ≡ ltb 2_000 n
 outside-by-size true zero = refl
 outside-by-size true (suc k) =
-    by-case (ltb 1_999 k) (λ e. let h = ltb-true 1_999 k e in rw (e, lt-yes {m = 2_000} {n = suc k} (omega arith)) refl)
-    (λ e. let h = ltb-false 1_999 k e in rw (e, lt-no {m = 2_000} {n = suc k} (omega arith)) refl)
+    by-case (ltb 1_999 k) (λ e. let h = ltb-true 1_999 k e in rw (e, lt-ltb 2_000 (suc k) (omega arith)) refl)
+    (λ e. let h = ltb-false 1_999 k e in rw (e, le-ltb 2_000 (suc k) (omega arith)) refl)
 outside-by-size false n = refl
 
 -- a line that is no year stays none
@@ -60,7 +59,7 @@ more count n b h room high low =
 -- after some digits: what is read of the rest is what document 01 says of one to four
 digits-read : (minus : Bool) (count n : ℕ) (bs : List ℕ) → Below count n → lineEnd (lineAfter (Digits minus count n) bs) ≡ oneToFour minus count n bs
 unfolding lineAfter numberFrom
-digits-read minus count n [] h = rw (add-zero, lt-no {m = 4} {n = count} (h .0), or-no (eqb count 0)) refl
+digits-read minus count n [] h = rw (add-zero, le-ltb 4 count (h .0), or-no (eqb count 0)) refl
 digits-read minus count n (b ∷ bs) h =
     let all = count + length (b ∷ bs) in
     by-case (ltb b 48) (λ low. rw (low, stays bs) (sym (either-way (eqb all 0 || ltb 4 all)))) (λ low.
@@ -69,10 +68,10 @@ digits-read minus count n (b ∷ bs) h =
     (λ room.
     let l = ltb-false b 48 low in let g = ltb-false 57 b high in let r = ltb-true count 4 room in
     let e : count + 1 + length bs ≡ count + length (b ∷ bs) = omega arith in
-    rw (low, high, room, lt-yes {m = n} {n = 1_000} (h .1 .1 .1 .1 (omega arith)), ← e) (digits-read minus (count + 1) (n * 10 + (b - 48)) bs (more count n b h r g l)))
+    rw (low, high, room, lt-ltb n 1_000 (h .1 .1 .1 .1 (omega arith)), ← e) (digits-read minus (count + 1) (n * 10 + (b - 48)) bs (more count n b h r g l)))
     (λ full.
     let f = ltb-false count 4 full in
-    rw (low, high, full, stays bs, ne-eqb all 0 (λ e. omega arith), lt-yes {m = 4} {n = all} (omega arith)) refl)))
+    rw (low, high, full, stays bs, ne-eqb all 0 (λ e. omega arith), lt-ltb 4 all (omega arith)) refl)))
 
 pub read-line : (bytes : List ℕ) → lineEnd (lineAfter Empty bytes) ≡ lineAsks bytes
 unfolding lineAfter lineAsks

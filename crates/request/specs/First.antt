@@ -5,7 +5,7 @@ use mathlib.Core.List.{List, [], _∷_}
 use Prim.Native.Nat.{ℕ}
 use lib.Dec.{eqb}
 use lib.IntN.{ℤ}
-use Rattle.law.specs.Answer.{Answer, refused}
+use Rattle.reasoning.specs.Answer.{Answer, refused}
 use Rattle.law.specs.Request.{newline}
 use Rattle.units.specs.Said.{saidSigned}
 use Rattle.request.specs.declared.line.Line.{Line}

@@ -5,7 +5,7 @@ use mathlib.Core.List.{List, [], _∷_}
 use Prim.Native.Nat.{ℕ, _+_, _-_, _*_}
 use lib.Dec.{ltb, eqb}
 use lib.IntN.{ℤ}
-use Rattle.law.specs.Answer.{Answer, value, refused, refusing}
+use Rattle.reasoning.specs.Answer.{Answer, value, refused, refusing}
 use Rattle.law.specs.Request.{minusSign, noDigit, yearAsked}
 use Rattle.request.specs.declared.line.Line.{Line}
 use Rattle.request.specs.declared.line.Line.the-variants.{Empty, Digits, NoYear}

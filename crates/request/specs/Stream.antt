@@ -9,9 +9,11 @@ use lib.ListN.{length, take, drop}
 use Rattle.law.specs.Request.{newline, answerText}
 use Rattle.request.specs.declared.line.Line.{Line}
 use Rattle.request.specs.declared.line.Line.the-variants.{Empty, Digits, NoYear}
+use Rattle.request.specs.declared.text.Text.{Text}
 use Rattle.request.specs.declared.answers.Fed.{Fed}
 use Rattle.request.specs.declared.answers.Stepped.{Stepped}
 use Rattle.request.specs.Reading.{lineStep, lineEnd}
+use Rattle.request.specs.Texts.{textBytes}
 
 -- the line after a byte of input
 abbrev pub nextLine : Line → ℕ → Line
@@ -38,8 +40,8 @@ closing (Digits minus count size) = answerText (lineEnd (Digits minus count size
 closing NoYear = answerText (lineEnd NoYear)
 
 -- of a block, as many bytes as the buffer has room for, 32 for each
-abbrev pub fitting : List ℕ → List ℕ → List ℕ
-fitting block out = take (length out / 32) block
+abbrev pub fittingBlock : List ℕ → List ℕ → List ℕ
+fittingBlock block out = take (length out / 32) block
 
 -- at the input's end too: 32 bytes, or nothing is written
 abbrev pub closingIn : Line → List ℕ → List ℕ
@@ -48,6 +50,12 @@ closingIn line out = cond (ltb (length out) 32) [] (closing line)
 -- n counts bytes at the start of out, said in both ways that a caller's `&out[..n]` asks for
 abbrev pub Counted : ℕ → List ℕ → Type 0
 Counted n out = (n ≤ length out) × (n ≡ length (take n out))
+
+-- what a text leaves in a buffer of which at bytes were written
+pub record Puts (text : Text) (at : ℕ) (out out′ : List ℕ) (r : ℕ) : Type 0 where
+  pub first : take r out′ ≡ take at out ++ textBytes text
+  pub end : r ≡ at + text .n
+  pub rest : drop r out′ ≡ drop r out
 
 -- what a byte of input leaves in a buffer of which at bytes were written
 pub record Took (line : Line) (b at : ℕ) (out out′ : List ℕ) (r : Stepped) : Type 0 where

@@ -6,11 +6,10 @@ use crate::text::Text;
 use crate::text::answer_text;
 use crate::text::no_text;
 ghost use mathlib.Core.Path.{_≡_};
-ghost use mathlib.Core.List.{_++_};
 ghost use Prim.Native.Nat.{_+_, _*_, _≤_};
-ghost use lib.ListN.{length, take, drop};
-ghost use Rattle.request.specs.Texts.{held};
-ghost use Rattle.request.specs.Stream.{fitting, closing, closingIn, Took, Feeds, Ends};
+ghost use lib.ListN.{length};
+ghost use Rattle.request.specs.Texts.{textBytes};
+ghost use Rattle.request.specs.Stream.{fittingBlock, closing, closingIn, Puts, Took, Feeds, Ends};
 
 // Room for an answer: more than the longest has.
 const ROOM: usize = 32;
@@ -18,7 +17,7 @@ const ROOM: usize = 32;
 // Puts a text at a place of the buffer; the place after it.
 fn put_text(out: &mut [u8], at: usize, text: Text) -> usize
     requires { ⌜ (text .n ≤ 32) × (at + 32 ≤ length (now out)) ⌝ }
-    ensures { λ r. ⌜ (take r (now (out .exit)) ≡ take at (now (out .entry)) ++ held text) × (r ≡ at + text .n) × (drop r (now (out .exit)) ≡ drop r (now (out .entry))) ⌝ }
+    ensures { λ r. ⌜ Puts text at (now (out .entry)) (now (out .exit)) r ⌝ }
 {
     let n = text.n;
     let mut i: usize = 0;
@@ -84,7 +83,7 @@ fn feed_block(line: Line, block: &[u8], out: &mut [u8]) -> Fed
 
 // Takes a block of input, of which as many bytes as the buffer has room for, 32 for each; writes the answers to the lines that end in them.
 pub fn feed(line: Line, block: &[u8], out: &mut [u8]) -> Fed
-    ensures { λ r. ⌜ Feeds line (fitting (now (block .entry)) (now (out .entry))) (now (out .entry)) (now (out .exit)) r ⌝ }
+    ensures { λ r. ⌜ Feeds line (fittingBlock (now (block .entry)) (now (out .entry))) (now (out .entry)) (now (out .exit)) r ⌝ }
 {
     let room = out.len() / ROOM;
     if room < block.len() {
@@ -95,7 +94,7 @@ pub fn feed(line: Line, block: &[u8], out: &mut [u8]) -> Fed
 
 // The answer at the input's end: to a last line without its newline, if it has bytes.
 fn last_text(line: Line) -> Text
-    ensures { λ r. ⌜ (held r ≡ closing line) × (r .n ≤ 32) ⌝ }
+    ensures { λ r. ⌜ (textBytes r ≡ closing line) × (r .n ≤ 32) ⌝ }
 {
     match line {
         Line::Empty => no_text(),

@@ -6,11 +6,12 @@ use units::Signed;
 ghost use mathlib.Core.Path.{_≡_};
 ghost use mathlib.Core.List.{[], _∷_};
 ghost use Prim.Native.Nat.{_+_, _≤_, _<_};
-ghost use Rattle.law.specs.Answer.{value};
+ghost use Rattle.reasoning.specs.Answer.{value};
 ghost use Rattle.law.specs.Document.{day};
 ghost use Rattle.law.specs.Request.{digitsOf, digits, twoDigits, signedDigits, yearText, refusedWord, refusedText, answerText};
 ghost use Rattle.units.specs.Said.{numberOf, saidSigned};
-ghost use Rattle.request.specs.Texts.{held, Grown, valuesOf};
+ghost use Rattle.sun.specs.Said.{valuesOfYear};
+ghost use Rattle.request.specs.Texts.{textBytes, Grown};
 
 // Some bytes of text: the first n of the array.
 pub struct Text {
@@ -62,7 +63,7 @@ fn push_two(text: Text, b: u8, v: u64) -> Text
 }
 
 pub(crate) fn no_text() -> Text
-    ensures { λ r. ⌜ (held r ≡ []) × (r .n ≡ 0) ⌝ }
+    ensures { λ r. ⌜ (textBytes r ≡ []) × (r .n ≡ 0) ⌝ }
 {
     Text {
         n: 0,
@@ -71,7 +72,7 @@ pub(crate) fn no_text() -> Text
 }
 
 fn refused_word() -> Text
-    ensures { λ r. ⌜ (held r ≡ refusedWord) × (r .n ≡ 8) ⌝ }
+    ensures { λ r. ⌜ (textBytes r ≡ refusedWord) × (r .n ≡ 8) ⌝ }
 {
     Text {
         n: 8,
@@ -113,7 +114,7 @@ fn refused_word() -> Text
 }
 
 fn signed_text(n: i64) -> Text
-    ensures { λ r. ⌜ (held r ≡ signedDigits n) × (r .n ≤ 5) ⌝ }
+    ensures { λ r. ⌜ (textBytes r ≡ signedDigits n) × (r .n ≤ 5) ⌝ }
 {
     let size = units::size(n);
     if n < 0 {
@@ -125,7 +126,7 @@ fn signed_text(n: i64) -> Text
 // N, day name, hour:minute, mansion.
 fn year_text(n: i64, year: Year) -> Text
     requires { ⌜ year .fraction < day ⌝ }
-    ensures { λ r. ⌜ (held r ≡ yearText n (valuesOf year)) × (r .n ≤ 32) ⌝ }
+    ensures { λ r. ⌜ (textBytes r ≡ yearText n (valuesOfYear year)) × (r .n ≤ 32) ⌝ }
 {
     let named = push_number(signed_text(n), b' ', year.day_name);
     let hour = push_two(named, b' ', year.fraction * 24 / 1_000_000_000);
@@ -134,7 +135,7 @@ fn year_text(n: i64, year: Year) -> Text
 }
 
 fn refused_text(refusal: Refusal) -> Text
-    ensures { λ r. ⌜ (held r ≡ refusedText (numberOf refusal)) × (r .n ≤ 32) ⌝ }
+    ensures { λ r. ⌜ (textBytes r ≡ refusedText (numberOf refusal)) × (r .n ≤ 32) ⌝ }
 {
     push(
         push_digits(refused_word(), 4, units::refusal_number(refusal)),
@@ -143,7 +144,7 @@ fn refused_text(refusal: Refusal) -> Text
 }
 
 fn year_answer(n: i64) -> Text
-    ensures { λ r. ⌜ (held r ≡ answerText (value n)) × (r .n ≤ 32) ⌝ }
+    ensures { λ r. ⌜ (textBytes r ≡ answerText (value n)) × (r .n ≤ 32) ⌝ }
 {
     match sun::year_of(n) {
         YearAnswer::Is(year) => year_text(n, year),
@@ -153,7 +154,7 @@ fn year_answer(n: i64) -> Text
 
 // What is written for what a line asks.
 pub(crate) fn answer_text(asked: Signed) -> Text
-    ensures { λ r. ⌜ (held r ≡ answerText (saidSigned asked)) × (r .n ≤ 32) ⌝ }
+    ensures { λ r. ⌜ (textBytes r ≡ answerText (saidSigned asked)) × (r .n ≤ 32) ⌝ }
 {
     match asked {
         Signed::Is(n) => year_answer(n),

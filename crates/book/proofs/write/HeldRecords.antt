@@ -10,18 +10,18 @@ use lib.Seq.{length-take-le, take-all}
 use Rattle.law.specs.Book.{writeAnswer}
 use Rattle.sun.specs.declared.records.Records.{Records}
 use Rattle.sun.specs.declared.term.TermRecord.{TermRecord}
-use Rattle.sun.specs.Said.{valuesOf}
-use Rattle.sun.specs.Records.{held, firstCount, firstRecords}
+use Rattle.sun.specs.Said.{valuesOfTerm}
+use Rattle.sun.specs.Records.{meant, firstCount, firstRecords}
 use Rattle.book.specs.declared.head.Head.{Head}
 use Rattle.book.specs.Said.{givenYear}
 
 -- ---- the records that are meant
 
 module _ (r : Records) (l : length (r .at) ≡ 24) where
-  pub held-all : 24 ≤ r .count → held r ≡ r .at
+  pub held-all : 24 ≤ r .count → meant r ≡ r .at
   held-all h = take-all (r .count) (r .at) (omega arith)
 
-  pub held-few : r .count < 24 → length (held r) < 24
+  pub held-few : r .count < 24 → length (meant r) < 24
   held-few h = let e = length-take-le (r .count) (r .at) (omega arith) in omega arith
 
 -- ---- a list given to be written
@@ -31,26 +31,26 @@ write-few : (head : Head) (ts us : List TermRecord) (b : List ℕ) → length ts
     → writeAnswer (givenYear head ts) b ≡ writeAnswer (givenYear head us) b
 unfolding writeAnswer
 write-few head ts us b h g =
-    rw (lt-ltb (length (map valuesOf ts)) 24 (rw (length-map ts valuesOf) h), lt-ltb (length (map valuesOf us)) 24 (rw (length-map us valuesOf) g)) refl
+    rw (lt-ltb (length (map valuesOfTerm ts)) 24 (rw (length-map ts valuesOfTerm) h), lt-ltb (length (map valuesOfTerm us)) 24 (rw (length-map us valuesOfTerm) g)) refl
 
-first-held : (l : List TermRecord) → 24 ≤ length l → held (firstRecords (length l) l) ≡ take 24 l
+first-held : (l : List TermRecord) → 24 ≤ length l → meant (firstRecords (length l) l) ≡ take 24 l
 unfolding firstCount
 first-held l h =
     let n = length-take-le 24 l h in
     rw (le-leb 24 (length l) h) (ap (take 24) (append-nil (take 24 l)) ∙ take-all 24 (take 24 l) (omega arith))
 
-first-none : (l : List TermRecord) → length l < 24 → held (firstRecords (length l) l) ≡ []
+first-none : (l : List TermRecord) → length l < 24 → meant (firstRecords (length l) l) ≡ []
 unfolding firstCount
 first-none l h = rw (lt-leb 24 (length l) h) refl
 
 pub first-written : (head : Head) (l : List TermRecord) (b : List ℕ)
-    → writeAnswer (givenYear head (held (firstRecords (length l) l))) b ≡ writeAnswer (givenYear head (take 24 l)) b
+    → writeAnswer (givenYear head (meant (firstRecords (length l) l))) b ≡ writeAnswer (givenYear head (take 24 l)) b
 first-written head l b = by (decLt (length l) 24)
   where
-    by : Dec (length l < 24) → writeAnswer (givenYear head (held (firstRecords (length l) l))) b ≡ writeAnswer (givenYear head (take 24 l)) b
+    by : Dec (length l < 24) → writeAnswer (givenYear head (meant (firstRecords (length l) l))) b ≡ writeAnswer (givenYear head (take 24 l)) b
     by (yes h) =
         let none = first-none l h in
-        let few : length (held (firstRecords (length l) l)) < 24 = rw none (omega arith) in
+        let few : length (meant (firstRecords (length l) l)) < 24 = rw none (omega arith) in
         let all : take 24 l ≡ l = take-all 24 l (omega arith) in
-        write-few head (held (firstRecords (length l) l)) (take 24 l) b few (rw all h)
+        write-few head (meant (firstRecords (length l) l)) (take 24 l) b few (rw all h)
     by (no h) = ap (λ (ts : List TermRecord). writeAnswer (givenYear head ts) b) (first-held l (omega arith))

@@ -1,48 +1,14 @@
--- The number is stored, or the refusal told. Assumes nothing.
+-- What the call said is told, the machine's numbers read back. Assumes nothing.
 use borrow.Author.Needs.{needs}
-use mathlib.Core.Path.{_≡_, _∙_, ap₂, subst}
 use mir.Facts.{toZ-ofZ}
-use Rattle.law.specs.Document.{meanAnswer}
-use Rattle.units.specs.Said.{saidNumber}
-use Rattle.bhromilun.proofs.Plainly.{answered, stored, stopped, kept}
 use Rattle.bhromilun.proofs.reckoning.bhromilun_mean_place.Statement.{statement}
 use Rattle.bhromilun.proofs.reckoning.bhromilun_mean_place.Tie as tie
 
--- what the call said, the machine's numbers read back
-told : (c : tie.After-mean-place) → saidNumber (c .mean-place .result) ≡ meanAnswer (c .before .args .n) (c .before .args .day)
-told c = c .mean-place .ensures ∙ ap₂ meanAnswer (toZ-ofZ (c .before .fits .n)) (toZ-ofZ (c .before .fits .day))
-
-mean-place-requires : tie.Need-mean-place-requires
-mean-place-requires c κs = search needs
-
-enum-known-value : tie.Need-enum-known-value
-enum-known-value c = search needs
-
-enum-known-refusal : tie.Need-enum-known-refusal
-enum-known-refusal c = search needs
-
-refusal-number-requires : tie.Need-refusal-number-requires
-refusal-number-requires c κs = search needs
-
 returns : tie.Need-returns
 returns c =
-    let s = c .before .before .before .before in
-    let e = subst (λ r. saidNumber r ≡ meanAnswer (s .args .n) (s .args .day)) (c .before .value .given .1) (told (c .before .before .before)) in
-    (answered e, stored (s .args .place .now) e)
-
-returns-2 : tie.Need-returns-2
-returns-2 c =
-    let s = c .before .before .before .before .before in
-    let e = subst (λ r. saidNumber r ≡ meanAnswer (s .args .n) (s .args .day)) (c .before .before .refusal .given .1) (told (c .before .before .before .before)) in
-    (c .refusal-number .ensures ∙ stopped e, kept (s .args .place .now) e)
+    let call = c .before .before in
+    let s = call .before in
+    rw (call .mean-place .ensures, toZ-ofZ (s .fits .n), toZ-ofZ (s .fits .day)) at (c .tell-number .ensures)
 
 pub bhromilun-mean-place-spec : {M : Type 1} → statement M
-bhromilun-mean-place-spec =
-    tie.close
-    (tie.spec
-    mean-place-requires
-    enum-known-value
-    enum-known-refusal
-    refusal-number-requires
-    returns
-    returns-2)
+bhromilun-mean-place-spec = tie.close (tie.spec (λ c κs. search needs) (λ c κs. search needs) returns)

@@ -7,7 +7,7 @@ use Rattle.law.specs.Book.{sound, yearFrom, BookYear, headOf}
 use Rattle.units.proofs.Machine.{Lowered, lowered}
 use Rattle.book.specs.Said.{saidChecked}
 use Rattle.book.proofs.YearSteps.{SoundYear, year-sound, year-room}
-use Rattle.book.proofs.ReadValues.{year-read}
+use Rattle.book.proofs.read.YearValues.{year-read}
 use Rattle.book.proofs.read.read_values.Statement.{statement}
 use Rattle.book.proofs.read.read_values.Tie as tie
 
@@ -30,11 +30,11 @@ enum-known-end c = search needs
 two-at-requires : tie.Need-two-at-requires
 two-at-requires c κs = omega (arith, year c .head)
 
-cast-t10 : tie.Need-cast-t10
-cast-t10 c = search needs
+cast-t12 : tie.Need-cast-t12
+cast-t12 c = search needs
 
-sub-t11 : tie.Need-sub-t11
-sub-t11 c = down c .sum
+sub-t13 : tie.Need-sub-t13
+sub-t13 c = down c .sum
 
 shared-slice-read-wide : tie.Need-shared-slice-read-wide
 shared-slice-read-wide c = omega (arith, year (c .before .before) .head)
@@ -54,15 +54,18 @@ terms-at-requires c κs = omega (arith, year-room _ _ (year (c .before .before .
 enum-known-refusal : tie.Need-enum-known-refusal
 enum-known-refusal c = search needs
 
+unread-requires : tie.Need-unread-requires
+unread-requires c κs = search needs
+
 returns : tie.Need-returns
 returns c = let at = c .before .before .before .before .before .before in
     let b = at .before .before .before .before .before .args .bytes .now in
     let read = year-read b (year at .head .size) (down (c .before .before .before .before .before) .is) (c .before .before .before .before .before .two-at .ensures .0) (c .before .before .before .wide .ensures .0) (c .before .wide2 .ensures .0) (c .terms-at .ensures) in
-    rw (told at) (refl, ap headOf read, ap (λ (v : BookYear). v .yearTerms) read)
+    rw (told at) (record { year = record { says = refl; head = ap headOf read }; count = refl; terms = ap (λ (v : BookYear). v .yearTerms) read })
 
 returns-2 : tie.Need-returns-2
-returns-2 c = let told = sym (c .before .before .before .year-at .ensures) ∙ ap saidChecked (c .before .refusal .given .1) in
-    rw told (refl, refl, refl)
+returns-2 c = let told = sym (c .before .before .before .before .year-at .ensures) ∙ ap saidChecked (c .before .before .refusal .given .1) in
+    rw (c .unread .ensures, told) (record { year = record { says = refl; head = refl }; count = refl; terms = refl })
 
 pub read-values-spec : {M : Type 1} → statement M
 read-values-spec =
@@ -71,13 +74,14 @@ read-values-spec =
     year-at-requires
     enum-known-end
     two-at-requires
-    cast-t10
-    sub-t11
+    cast-t12
+    sub-t13
     shared-slice-read-wide
     wide-requires
     shared-slice-read-wide-2
     wide-requires-2
     terms-at-requires
     enum-known-refusal
+    unread-requires
     returns
     returns-2)

@@ -3,7 +3,7 @@ use native.Mathlib.Omega.{arith}
 use mir.Syntax.{w64}
 use borrow.Author.Needs.{needs}
 use Rattle.units.proofs.Machine.{Lowered, lowered}
-use Rattle.book.proofs.ReadValues.{term-read}
+use Rattle.book.proofs.read.YearValues.{term-read}
 use Rattle.book.proofs.read.term_at.Statement.{statement}
 use Rattle.book.proofs.read.term_at.Tie as tie
 

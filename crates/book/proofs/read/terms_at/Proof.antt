@@ -6,9 +6,9 @@ use native.Mathlib.Omega.{arith}
 use lib.ListN.{length, replicate, length-set, drop}
 use Rattle.law.specs.Document.{TermValues}
 use Rattle.law.specs.Book.{termIn}
-use Rattle.law.proofs.InOrder.{Filled, filled-none, filled-more, filled-all}
-use Rattle.sun.specs.Said.{valuesOf}
-use Rattle.sun.specs.Records.{blank}
+use Rattle.reasoning.proofs.InOrder.{FilledTo, filled-none, filled-more, filled-all}
+use Rattle.sun.specs.Said.{valuesOfTerm}
+use Rattle.sun.specs.Records.{zeroRecord}
 use Rattle.book.proofs.read.terms_at.Statement.{statement}
 use Rattle.book.proofs.read.terms_at.Tie as tie
 
@@ -16,13 +16,13 @@ abbrev termIs : List ℕ → ℕ → TermValues
 termIs b k = termIn (drop (5 + k * 6) b)
 
 abbrev Inv-loop : tie.InvT-loop
-Inv-loop bytes terms₀ k₀ terms k = (k ≤ 24) × (length terms ≡ 24) × Filled valuesOf (termIs bytes) blank terms k
+Inv-loop bytes terms₀ k₀ terms k = (k ≤ 24) × (length terms ≡ 24) × FilledTo valuesOfTerm (termIs bytes) zeroRecord terms k
 
 abbrev μ-loop : tie.MeasureT-loop
 μ-loop bytes terms₀ k₀ terms k = 24 - k
 
 loop-holds : tie.Need-loop-holds Inv-loop μ-loop
-loop-holds c = (omega arith, refl, filled-none valuesOf (termIs (c .before .args .bytes .now)) blank (replicate 24 blank))
+loop-holds c = (omega arith, refl, filled-none valuesOfTerm (termIs (c .before .args .bytes .now)) zeroRecord (replicate 24 zeroRecord))
 
 mul-term-at : tie.Need-mul-term-at Inv-loop μ-loop
 mul-term-at c = omega arith
@@ -49,13 +49,13 @@ loop-again : tie.Need-loop-again Inv-loop μ-loop
 loop-again c = let l = c .before .before .loop in
     let f = termIs (c .before .before .before .before .args .bytes .now) in
     let t = c .term-at .result in
-    (omega arith, length-set (l .terms) (l .k) t ∙ l .inv .1, filled-more valuesOf f blank (l .terms) (l .k) t (l .inv .2) (omega (arith, l .inv .1)) (c .term-at .ensures))
+    (omega arith, length-set (l .terms) (l .k) t ∙ l .inv .1, filled-more valuesOfTerm f zeroRecord (l .terms) (l .k) t (l .inv .2) (omega (arith, l .inv .1)) (c .term-at .ensures))
 
 returns : tie.Need-returns Inv-loop μ-loop
 returns c = let l = c .before .loop in
     let f = termIs (c .before .before .before .args .bytes .now) in
     let e : l .k ≡ 24 = omega arith in
-    filled-all valuesOf f blank (l .terms) 24 (l .inv .1) (subst (Filled valuesOf f blank (l .terms)) e (l .inv .2))
+    filled-all valuesOfTerm f zeroRecord (l .terms) 24 (l .inv .1) (subst (FilledTo valuesOfTerm f zeroRecord (l .terms)) e (l .inv .2))
 
 pub terms-at-spec : {M : Type 1} → statement M
 terms-at-spec =

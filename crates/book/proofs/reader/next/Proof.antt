@@ -45,9 +45,7 @@ use denote.Triple.Spec.{Meets, tripleOf}
 use denote.Triple.Table.{entered, cited}
 use denote.Triple.Walked.{says, Stays, stay-ref, walkOf, goes-ref, Walks, ends-at, walked, walk-meets}
 use Rattle.reasoning.proofs.ByHand.{answered, plainly}
-use Rattle.law.specs.Book.{byteAfter, leastThen}
-use Rattle.book.specs.Said.{saidNext}
-use Rattle.book.specs.Reader.{placeIn, finds, handsOut, handsFrom, goneOn, bytesFrom, startFrom}
+use Rattle.book.specs.Reader.{placeIn, PartIs, HandsOn, StepIs, bytesFrom, startFrom}
 use Rattle.book.specs.declared.reader.Reader.{Reader}
 use Rattle.book.specs.declared.reader.Handed.{Handed}
 use Rattle.book.specs.declared.reader.Step.{Step}
@@ -84,23 +82,20 @@ module _ (h : Reader) (n : Step) where
   after = record { book = h .book; at = n .to; least = n .least }
 
   abbrev Stepped : Type 0
-  Stepped = (saidNext (n .what) ≡ finds h) × (n .to ≡ byteAfter (h .at) (saidNext (n .what))) × (n .least ≡ leastThen (h .least) (saidNext (n .what)))
+  Stepped = StepIs (now (h .book)) (h .at) (h .least) n
 
   abbrev Parted : RefT (List ℕ) → Type 0
-  Parted p = (now p ≡ bytesFrom (now (h .book)) (h .at) (n .to)) × (ptr p ≡ placeIn (h .book) (startFrom (now (h .book)) (h .at) (n .to)))
+  Parted p = PartIs (h .book) (bytesFrom (now (h .book)) (h .at) (n .to)) (startFrom (now (h .book)) (h .at) (n .to)) p
 
-  promised : (p : RefT (List ℕ)) → Stepped → Parted p
-      → (saidNext (n .what) ≡ finds h) × (now p ≡ handsOut h) × (ptr p ≡ handsFrom h) × (after ≡ goneOn h)
+  promised : (p : RefT (List ℕ)) → Stepped → Parted p → HandsOn h after (out n p)
   promised p e g =
       let s = now (h .book) in
-      let to : n .to ≡ byteAfter (h .at) (finds h) = e .1 ∙ ap (byteAfter (h .at)) (e .0) in
-      let least : n .least ≡ leastThen (h .least) (finds h) = e .2 ∙ ap (leastThen (h .least)) (e .0) in
-      let handed = part-handed s (h .at) (h .least) in (
-        e .0,
-        g .0 ∙ (ap (bytesFrom s (h .at)) to ∙ handed .0),
-        g .1 ∙ ap (placeIn (h .book)) (ap (startFrom s (h .at)) to ∙ handed .1),
-        ap₂ (λ (i l : ℕ). record { book = h .book; at = i; least = l }) to least,
-      )
+      let handed = part-handed s (h .at) (h .least) in
+      record {
+        found = e .found;
+        part = record { bytes = g .bytes ∙ (ap (bytesFrom s (h .at)) (e .byte) ∙ handed .0); place = g .place ∙ ap (placeIn (h .book)) (ap (startFrom s (h .at)) (e .byte) ∙ handed .1) };
+        reader = ap₂ (λ (i l : ℕ). record { book = h .book; at = i; least = l }) (e .byte) (e .least);
+      }
 
 -- ---- the walk
 

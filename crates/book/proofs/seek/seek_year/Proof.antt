@@ -3,36 +3,36 @@ use mathlib.Core.Path.{_≡_, ap, sym, _∙_, subst}
 use Prim.Native.Nat.{ℕ}
 use mir.Facts.{toZ-ofZ}
 use borrow.Author.Needs.{needs}
-use Rattle.reasoning.proofs.Inside.{Inside}
-use Rattle.units.specs.Edges.{yearIndex}
+use Rattle.reasoning.proofs.Indexed.{Indexed}
+use Rattle.units.specs.IndexAnswers.{yearIndexAnswer}
 use Rattle.units.specs.Said.{saidNumber}
-use Rattle.units.proofs.Edges.{year-in, year-out}
+use Rattle.units.proofs.IndexAnswers.{year-in, year-out}
 use Rattle.book.proofs.Counts.{counted}
-use Rattle.book.proofs.BookSteps.{toSeek, seek-outside, seek-inside}
+use Rattle.book.proofs.seek.SeekSteps.{toSeek, seek-outside, seek-inside}
 use Rattle.book.proofs.seek.seek_year.Statement.{statement}
 use Rattle.book.proofs.seek.seek_year.Tie as tie
 
 -- what `year_index` said, handed the machine's reading
-said : (c : tie.After-year-index) → saidNumber (c .year-index .result) ≡ yearIndex (c .before .before .args .n)
-said c = c .year-index .ensures ∙ ap yearIndex (toZ-ofZ (c .before .before .fits .n))
+said : (c : tie.After-year-index) → saidNumber (c .year-index .result) ≡ yearIndexAnswer (c .before .before .args .n)
+said c = c .year-index .ensures ∙ ap yearIndexAnswer (toZ-ofZ (c .before .before .fits .n))
 
-in-range : (c : tie.After-count) → Inside 2_000 2_000 (c .before .before .before .before .args .n) (c .count .given .0 .0)
+in-range : (c : tie.After-y) → Indexed 2_000 2_000 (c .before .before .before .before .args .n) (c .y .given .0 .0)
 in-range c =
     let n = c .before .before .before .before .args .n in
-    year-in n (subst (λ r. saidNumber r ≡ yearIndex n) (c .count .given .1) (said (c .before .before)))
+    year-in n (subst (λ r. saidNumber r ≡ yearIndexAnswer n) (c .y .given .1) (said (c .before .before)))
 
 year-index-requires : tie.Need-year-index-requires
 year-index-requires c κs = search needs
 
-enum-known-count : tie.Need-enum-known-count
-enum-known-count c = search needs
+enum-known-y : tie.Need-enum-known-y
+enum-known-y c = search needs
 
 enum-told : tie.Need-enum-told
 enum-told c = search needs
 
 returns : tie.Need-returns
 returns c = let a = c .before .before .before .before .args in
-    sym (seek-outside (a .book .now) (a .n) (year-out (a .n) (subst (λ r. saidNumber r ≡ yearIndex (a .n)) (c .enum-told .given .1) (said (c .before .before)))))
+    sym (seek-outside (a .book .now) (a .n) (year-out (a .n) (subst (λ r. saidNumber r ≡ yearIndexAnswer (a .n)) (c .enum-told .given .1) (said (c .before .before)))))
 
 seek-requires : tie.Need-seek-requires
 seek-requires c κs = in-range (c .before) .most
@@ -45,4 +45,4 @@ returns-2 c = let a = c .before .before .before .before .before .before .args in
 pub seek-year-spec : {M : Type 1} → statement M
 seek-year-spec =
     tie.close
-    (tie.spec year-index-requires enum-known-count enum-told returns seek-requires returns-2)
+    (tie.spec year-index-requires enum-known-y enum-told returns seek-requires returns-2)

@@ -1,15 +1,20 @@
 -- A part that is found lies within the book. Assumes nothing.
-use mathlib.Core.List.{List}
-use mathlib.Core.Path.{_≡_, sym, _∙_, ap}
+use mathlib.Core.List.{List, []}
+use mathlib.Core.Logic.{_⊎_, ⊎-elim}
+use mathlib.Core.Path.{_≡_, refl, sym, subst, _∙_, ap}
 use Prim.Native.Nat.{ℕ}
 use native.Mathlib.Omega.{arith}
 use mir.Facts.{toZ-ofZ}
 use borrow.Author.Needs.{needs}
-use denote.Ref.{RefT, now}
-use Rattle.law.specs.Book.{Sought, seekOf, partOf, partStart}
+use denote.Enum.Declared.{tagOf}
+use denote.Ref.{RefT}
+use Rattle.law.specs.Book.{Sought, seekOf}
+use Rattle.book.specs.declared.seek.Sought.{Sought as SoughtAnswer}
+use Rattle.book.specs.declared.seek.Sought.the-variants as sought-answer
 use Rattle.book.specs.Said.{saidSought}
-use Rattle.book.specs.Reader.{placeIn}
-use Rattle.book.proofs.BookSteps.{Within, found-within}
+use Rattle.book.specs.Reader.{PartIs, PartSought}
+use Rattle.book.proofs.seek.SeekSteps.{Within, found-within}
+use Rattle.book.proofs.seek.Sought as sought
 use Rattle.book.proofs.seek.year_part.Statement.{statement}
 use Rattle.book.proofs.seek.year_part.Tie as tie
 
@@ -17,9 +22,16 @@ use Rattle.book.proofs.seek.year_part.Tie as tie
 said : (c : tie.After-seek-year) → saidSought (c .seek-year .result) ≡ seekOf (c .before .before .args .book .now) (c .before .before .args .n)
 said c = c .seek-year .ensures ∙ ap (seekOf (c .before .before .args .book .now)) (toZ-ofZ (c .before .before .fits .n))
 
--- the bytes of the part and their place, from what is said
-handed : (book : RefT (List ℕ)) {x y : Sought} → x ≡ y → (partOf (now book) x ≡ partOf (now book) y) × (placeIn book (partStart x) ≡ placeIn book (partStart y))
-handed book e = (ap (partOf (now book)) e, ap (λ (z : Sought). placeIn book (partStart z)) e)
+-- what is said decides the part
+handed : (c : tie.After-seek-year) (x : SoughtAnswer) → c .seek-year .result ≡ x → {part : RefT (List ℕ)}
+    → let a = c .before .before .args in PartSought (a .book) (saidSought x) part → PartSought (a .book) (seekOf (a .book .now) (a .n)) part
+handed c x e {part} p = subst (λ (z : Sought). PartSought (c .before .before .args .book) z part) (ap saidSought (sym e) ∙ said c) p
+
+-- no year, no part
+no-part : {book part : RefT (List ℕ)} (x : SoughtAnswer) → (tagOf sought.the-type x ≡ 1) ⊎ (tagOf sought.the-type x ≡ 2) → PartIs book [] 0 part → PartSought book (saidSought x) part
+no-part (sought-answer.Found a e) w p = absurd (⊎-elim (λ z. omega (arith, z)) (λ z. omega (arith, z)) w)
+no-part (sought-answer.Unsound r byte) w p = p
+no-part (sought-answer.Refused r) w p = p
 
 found-in : (c : tie.After-known-told) → Within 0 (c .before .before .before .before .before .args .book .now) (c .before .start .given .0 .0) (c .before .start .given .0 .1 .0)
 found-in c =
@@ -33,46 +45,28 @@ enum-known-start : tie.Need-enum-known-start
 enum-known-start c = search needs
 
 sub-result : tie.Need-sub-result
-sub-result c = omega (arith, found-in c)
+sub-result c = search needs
 
 part-result-start : tie.Need-part-result-start
-part-result-start c = omega (arith, found-in c)
+part-result-start c = search needs
 
 part-result-end : tie.Need-part-result-end
-part-result-end c = omega (arith, found-in c)
-
-enum-told : tie.Need-enum-told
-enum-told c = search needs
-
-sub-result-2 : tie.Need-sub-result-2
-sub-result-2 c = search needs
-
-part-result-start-2 : tie.Need-part-result-start-2
-part-result-start-2 c = search needs
-
-part-result-end-2 : tie.Need-part-result-end-2
-part-result-end-2 c = search needs
-
-enum-told-2 : tie.Need-enum-told-2
-enum-told-2 c = search needs
-
-sub-result-3 : tie.Need-sub-result-3
-sub-result-3 c = search needs
-
-part-result-start-3 : tie.Need-part-result-start-3
-part-result-start-3 c = search needs
-
-part-result-end-3 : tie.Need-part-result-end-3
-part-result-end-3 c = search needs
+part-result-end c = search needs
 
 returns : tie.Need-returns
-returns c = let a = c .before .before .before .before .before .before .args in handed (a .book) (ap saidSought (sym (c .before .before .start .given .1)) ∙ said (c .before .before .before .before))
+returns c = let x = c .before .before .seek-year .result in handed (c .before .before) x refl (no-part x (c .before .match .keys2) (record { bytes = refl; place = refl }))
+
+sub-result-2 : tie.Need-sub-result-2
+sub-result-2 c = omega (arith, found-in c)
+
+part-result-start-2 : tie.Need-part-result-start-2
+part-result-start-2 c = omega (arith, found-in c)
+
+part-result-end-2 : tie.Need-part-result-end-2
+part-result-end-2 c = omega (arith, found-in c)
 
 returns-2 : tie.Need-returns-2
-returns-2 c = let a = c .before .before .before .before .before .args in handed (a .book) (ap saidSought (sym (c .before .enum-told .given .1)) ∙ said (c .before .before .before))
-
-returns-3 : tie.Need-returns-3
-returns-3 c = let a = c .before .before .before .before .before .args in handed (a .book) (ap saidSought (sym (c .before .enum-told2 .given .1)) ∙ said (c .before .before .before))
+returns-2 c = handed (c .before .before .before .before) _ (c .before .before .start .given .1) (record { bytes = refl; place = refl })
 
 pub year-part-spec : {M : Type 1} → statement M
 year-part-spec =
@@ -83,14 +77,8 @@ year-part-spec =
     sub-result
     part-result-start
     part-result-end
-    enum-told
+    returns
     sub-result-2
     part-result-start-2
     part-result-end-2
-    enum-told-2
-    sub-result-3
-    part-result-start-3
-    part-result-end-3
-    returns
-    returns-2
-    returns-3)
+    returns-2)

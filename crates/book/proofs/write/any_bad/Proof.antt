@@ -6,14 +6,14 @@ use native.Mathlib.Omega.{arith}
 use lib.ListN.{length, getD, drop, length-map}
 use borrow.Author.Needs.{needs}
 use Rattle.law.specs.Book.{anyBad}
-use Rattle.sun.specs.Said.{valuesOf}
-use Rattle.sun.specs.Records.{blank}
-use Rattle.book.proofs.write.Filling.{bad-none, bad-here, bad-later, term-next}
+use Rattle.sun.specs.Said.{valuesOfTerm}
+use Rattle.sun.specs.Records.{zeroRecord}
+use Rattle.book.proofs.write.BufferFilled.{bad-none, bad-here, bad-later, term-next}
 use Rattle.book.proofs.write.any_bad.Statement.{statement}
 use Rattle.book.proofs.write.any_bad.Tie as tie
 
 abbrev Inv-loop : tie.InvT-loop
-Inv-loop terms i₀ i = (i ≤ 24) × (length terms ≡ 24) × (anyBad (drop i (map valuesOf terms)) ≡ anyBad (map valuesOf terms))
+Inv-loop terms i₀ i = (i ≤ 24) × (length terms ≡ 24) × (anyBad (drop i (map valuesOfTerm terms)) ≡ anyBad (map valuesOfTerm terms))
 
 abbrev μ-loop : tie.MeasureT-loop
 μ-loop terms i₀ i = 24 - i
@@ -33,7 +33,7 @@ is-bad-requires c κs = search needs
 returns : tie.Need-returns Inv-loop μ-loop
 returns c = let l = c .before .before .before .before .loop in
     let ts = c .before .before .before .before .before .args .t1 in
-    sym (bad-here (l .i) (map valuesOf ts) (valuesOf (getD ts (l .i) blank)) (term-next ts (l .i) (omega (arith, l .inv .1))) (sym (c .before .is-bad .ensures) ∙ c .if1 .taken)) ∙ l .inv .2
+    sym (bad-here (l .i) (map valuesOfTerm ts) (valuesOfTerm (getD ts (l .i) zeroRecord)) (term-next ts (l .i) (omega (arith, l .inv .1))) (sym (c .before .is-bad .ensures) ∙ c .if1 .taken)) ∙ l .inv .2
 
 add-i : tie.Need-add-i Inv-loop μ-loop
 add-i c = omega arith
@@ -44,12 +44,12 @@ loop-less c = omega arith
 loop-again : tie.Need-loop-again Inv-loop μ-loop
 loop-again c = let l = c .before .before .before .before .loop in
     let ts = c .before .before .before .before .before .args .t1 in
-    (omega arith, l .inv .1, sym (bad-later (l .i) (map valuesOf ts) (valuesOf (getD ts (l .i) blank)) (term-next ts (l .i) (omega (arith, l .inv .1))) (sym (c .before .is-bad .ensures) ∙ c .if1 .left)) ∙ l .inv .2)
+    (omega arith, l .inv .1, sym (bad-later (l .i) (map valuesOfTerm ts) (valuesOfTerm (getD ts (l .i) zeroRecord)) (term-next ts (l .i) (omega (arith, l .inv .1))) (sym (c .before .is-bad .ensures) ∙ c .if1 .left)) ∙ l .inv .2)
 
 returns-2 : tie.Need-returns-2 Inv-loop μ-loop
 returns-2 c = let l = c .before .loop in
     let ts = c .before .before .args .t1 in
-    sym (bad-none (l .i) (map valuesOf ts) (omega (arith, length-map ts valuesOf, l .inv .1))) ∙ l .inv .2
+    sym (bad-none (l .i) (map valuesOfTerm ts) (omega (arith, length-map ts valuesOfTerm, l .inv .1))) ∙ l .inv .2
 
 pub any-bad-spec : {M : Type 1} → statement M
 any-bad-spec =

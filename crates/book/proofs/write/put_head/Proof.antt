@@ -40,7 +40,7 @@ same-length c = search needs
 
 returns : tie.Need-returns
 returns c = let a = c .args in
-    sets-eq (1 ∷ a .number / 256 % 256 ∷ a .number % 256 ∷ a .day-name ∷ a .mansion ∷ []) (a .buf .now) 0 (omega arith)
+    sets-eq (1 ∷ a .y / 256 % 256 ∷ a .y % 256 ∷ a .day-name ∷ a .mansion ∷ []) (a .buf .now) 0 (omega arith)
 
 pub put-head-spec : {M : Type 1} → statement M
 put-head-spec =

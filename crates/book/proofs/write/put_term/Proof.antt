@@ -3,7 +3,7 @@ use Prim.Native.Nat.{_/_, _%_}
 use native.Mathlib.Omega.{arith}
 use lib.ListN.{length-set}
 use borrow.Author.Needs.{needs}
-use Rattle.book.proofs.write.Filling.{put-six}
+use Rattle.book.proofs.write.BufferFilled.{put-six}
 use Rattle.book.proofs.write.put_term.Statement.{statement}
 use Rattle.book.proofs.write.put_term.Tie as tie
 
@@ -60,7 +60,7 @@ same-length c = search needs
 
 returns : tie.Need-returns
 returns c = let a = c .args in
-    put-six (a .buf .now) (a .at) 2 (a .k) (a .day / 256 % 256) (a .day % 256) (a .minute / 256 % 256) (a .minute % 256) (omega arith)
+    put-six (a .buf .now) (a .at) 2 (a .k) (a .j / 256 % 256) (a .j % 256) (a .minute / 256 % 256) (a .minute % 256) (omega arith)
 
 pub put-term-spec : {M : Type 1} → statement M
 put-term-spec =

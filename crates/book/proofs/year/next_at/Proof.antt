@@ -4,14 +4,22 @@ use Prim.Native.Nat.{ℕ, _+_}
 use native.Mathlib.Omega.{arith}
 use lib.ListN.{drop, length-drop}
 use borrow.Author.Needs.{needs}
-use Rattle.law.specs.Book.{sound, faulty, yearFrom}
-use Rattle.units.specs.Said.{numberOf}
+use Rattle.law.specs.Book.{yearFrom, nextYear, leastAfter, stepOf, nextAt}
+use Rattle.book.specs.declared.year.BookAnswer.{BookAnswer}
 use Rattle.book.specs.Said.{saidChecked}
-use Rattle.book.proofs.WhatIsLeft.{two-drop}
+use Rattle.book.proofs.BytesLeft.{two-drop}
 use Rattle.book.proofs.YearSteps.{year-sound, year-room}
-use Rattle.book.proofs.BookSteps.{next-end, next-sound, next-faulty}
+use Rattle.book.proofs.BookSteps.{next-end, next-in}
 use Rattle.book.proofs.year.next_at.Statement.{statement}
 use Rattle.book.proofs.year.next_at.Tie as tie
+
+-- where a year is due, what `year_at` said decides
+said : (c : tie.After-year-at) (r : BookAnswer) → c .year-at .result ≡ r → let a = c .before .before .before .args in saidChecked r ≡ yearFrom (a .least) (a .at) (drop (a .at) (a .book .now))
+said c r e = ap saidChecked (sym e) ∙ c .year-at .ensures
+
+found : (c : tie.After-year-at) (r : BookAnswer) → c .year-at .result ≡ r
+    → let a = c .before .before .before .args in stepOf (saidChecked r) (leastAfter (drop (a .at) (a .book .now))) ≡ nextAt (a .book .now) (a .at) (a .least)
+found c r e = next-in _ _ _ (omega arith) (said c r e)
 
 returns : tie.Need-returns
 returns c = sym (next-end _ _ _ (c .if1 .taken))
@@ -27,9 +35,7 @@ add-two-at c = search needs
 
 two-at-requires : tie.Need-two-at-requires
 two-at-requires c κs = let a = c .before .before .before .before .before .before .args in
-    let q : yearFrom (a .least) (a .at) (drop (a .at) (a .book .now)) ≡ sound (c .before .end .given .0 .0) =
-    sym (c .before .before .before .year-at .ensures) ∙ ap saidChecked (c .before .end .given .1) in
-    omega (arith, year-room _ _ (year-sound _ _ _ _ q), length-drop (a .at) (a .book .now))
+    omega (arith, year-room _ _ (year-sound _ _ _ _ (sym (said (c .before .before .before) _ (c .before .end .given .1)))), length-drop (a .at) (a .book .now))
 
 add-t13 : tie.Need-add-t13
 add-t13 c = search needs
@@ -39,16 +45,11 @@ enum-known-refusal c = search needs
 
 returns-2 : tie.Need-returns-2
 returns-2 c = let a = c .before .before .before .before .before .before .before .args in
-    let s = a .book .now in
-    let q : yearFrom (a .least) (a .at) (drop (a .at) s) ≡ sound (c .before .before .end .given .0 .0) =
-    sym (c .before .before .before .before .year-at .ensures) ∙ ap saidChecked (c .before .before .end .given .1) in
-    next-sound s (a .at) (a .least) (omega arith) _ _ q (ap (λ (x : ℕ). x + 1) (c .two-at .ensures .0 ∙ sym (two-drop s (a .at) 1)))
+    ap (λ (y : ℕ). nextYear (c .before .before .end .given .0 .0) (y + 1)) (c .two-at .ensures .0 ∙ sym (two-drop (a .book .now) (a .at) 1))
+    ∙ found (c .before .before .before .before) _ (c .before .before .end .given .1)
 
 returns-3 : tie.Need-returns-3
-returns-3 c = let a = c .before .before .before .before .before .before .args in
-    let q : yearFrom (a .least) (a .at) (drop (a .at) (a .book .now)) ≡ faulty (numberOf (c .before .refusal .given .0 .0)) (c .before .refusal .given .0 .1 .0) =
-    sym (c .before .before .before .year-at .ensures) ∙ ap saidChecked (c .before .refusal .given .1) in
-    next-faulty (a .book .now) (a .at) (a .least) (omega arith) _ _ q
+returns-3 c = found (c .before .before .before) _ (c .before .refusal .given .1)
 
 pub next-at-spec : {M : Type 1} → statement M
 next-at-spec =

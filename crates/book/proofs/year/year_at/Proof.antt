@@ -6,12 +6,12 @@ use native.Mathlib.Omega.{arith}
 use lib.ListN.{getD, drop, length-drop}
 use lib.Seq.{drop-drop}
 use borrow.Author.Needs.{needs}
-use Rattle.law.specs.Answer.{value, refused}
+use borrow.Rule.Slice.PartAt.{part-to-end}
 use Rattle.law.specs.Book.{aHead, aTerm, recordSize, recordAnswer, termsFrom, yearFrom}
-use Rattle.units.specs.Said.{numberOf}
+use Rattle.book.specs.declared.record.RecordAnswer.{RecordAnswer}
 use Rattle.book.specs.Said.{saidRecord}
 use Rattle.book.proofs.RecordAnswers.{size-le}
-use Rattle.book.proofs.WhatIsLeft.{rest, first}
+use Rattle.book.proofs.BytesLeft.{first}
 use Rattle.book.proofs.YearSteps.{terms-end, terms-none, terms-bad, terms-more, year-none, year-bad, year-more}
 use Rattle.book.proofs.year.year_at.Statement.{statement}
 use Rattle.book.proofs.year.year_at.Tie as tie
@@ -21,6 +21,17 @@ Inv-loop book at least i₀ k₀ i k = (k ≤ 24) × (termsFrom (24 - k) k i (dr
 
 abbrev μ-loop : tie.MeasureT-loop
 μ-loop book at least i₀ k₀ i k = 24 - k
+
+-- what is said of the head, and of a term, read in what is left of the book
+said-head : (c : tie.After-head-answer Inv-loop μ-loop) (r : RecordAnswer) → c .head-answer .result ≡ r
+    → let a = c .before .before .before .before .args in saidRecord r ≡ recordAnswer (drop (a .at) (a .book .now)) (aHead (a .least))
+said-head c r e = let a = c .before .before .before .before .args in
+    ap saidRecord (sym e) ∙ c .head-answer .ensures ∙ ap (λ (l : List ℕ). recordAnswer l (aHead (a .least))) (part-to-end (a .book .now) (a .at))
+
+said-term : (c : tie.After-term-answer Inv-loop μ-loop) (r : RecordAnswer) → c .term-answer .result ≡ r
+    → let l = c .before .before .before .before .loop in saidRecord r ≡ recordAnswer (drop (l .i) (c .before .before .before .before .before .before .before .before .before .before .before .before .before .args .book .now)) (aTerm (l .k))
+said-term c r e = let l = c .before .before .before .before .loop in
+    ap saidRecord (sym e) ∙ c .term-answer .ensures ∙ ap (λ (b : List ℕ). recordAnswer b (aTerm (l .k))) (part-to-end (c .before .before .before .before .before .before .before .before .before .before .before .before .before .args .book .now) (l .i))
 
 returns : tie.Need-returns Inv-loop μ-loop
 returns c = sym (year-none _ _ _ (simp length-drop (omega arith)))
@@ -35,7 +46,7 @@ part-head-answer-end : tie.Need-part-head-answer-end Inv-loop μ-loop
 part-head-answer-end c = search needs
 
 head-answer-requires : tie.Need-head-answer-requires Inv-loop μ-loop
-head-answer-requires c κs = simp (rest, length-drop) (omega arith)
+head-answer-requires c κs = simp (part-to-end, length-drop) (omega arith)
 
 enum-told : tie.Need-enum-told Inv-loop μ-loop
 enum-told c = search needs
@@ -44,10 +55,7 @@ enum-known-refusal : tie.Need-enum-known-refusal Inv-loop μ-loop
 enum-known-refusal c = search needs
 
 returns-2 : tie.Need-returns-2 Inv-loop μ-loop
-returns-2 c = let a = c .before .before .before .before .before .before .before .args in
-    let told : refused (numberOf (c .before .refusal .given .0 .0)) ≡ recordAnswer (drop (a .at) (a .book .now)) (aHead (a .least)) =
-    ap saidRecord (sym (c .before .refusal .given .1)) ∙ c .before .before .before .head-answer .ensures ∙ ap (λ (l : List ℕ). recordAnswer l (aHead (a .least))) (rest (a .book .now) (a .at)) in
-    sym (year-bad (a .least) (a .at) (drop (a .at) (a .book .now)) (simp length-drop (omega arith)) told)
+returns-2 c = sym (year-bad _ _ _ (simp length-drop (omega arith)) (said-head (c .before .before .before) _ (c .before .refusal .given .1)))
 
 shared-slice-read-record-size : tie.Need-shared-slice-read-record-size Inv-loop μ-loop
 shared-slice-read-record-size c = search needs
@@ -62,8 +70,7 @@ add-i c = let a = c .before .before .before .before .before .before .before .bef
 loop-holds : tie.Need-loop-holds Inv-loop μ-loop
 loop-holds c = let a = c .before .before .before .before .before .before .before .before .args in
     let s = a .book .now in
-    let told : value tt ≡ recordAnswer (drop (a .at) s) (aHead (a .least)) =
-    ap saidRecord (sym (c .before .before .enum-told .given .1)) ∙ c .before .before .before .before .head-answer .ensures ∙ ap (λ (l : List ℕ). recordAnswer l (aHead (a .least))) (rest s (a .at)) in
+    let told = said-head (c .before .before .before .before) _ (c .before .before .enum-told .given .1) in
     (omega arith, cc (first s (a .at), drop-drop (recordSize (getD s (a .at) 0)) (a .at) s, year-more (a .least) (a .at) (drop (a .at) s) (simp length-drop (omega arith)) told))
 
 returns-3 : tie.Need-returns-3 Inv-loop μ-loop
@@ -80,7 +87,7 @@ part-term-answer-end : tie.Need-part-term-answer-end Inv-loop μ-loop
 part-term-answer-end c = search needs
 
 term-answer-requires : tie.Need-term-answer-requires Inv-loop μ-loop
-term-answer-requires c κs = simp (rest, length-drop) (omega arith)
+term-answer-requires c κs = simp (part-to-end, length-drop) (omega arith)
 
 enum-told-2 : tie.Need-enum-told-2 Inv-loop μ-loop
 enum-told-2 c = search needs
@@ -89,11 +96,9 @@ enum-known-refusal-2 : tie.Need-enum-known-refusal-2 Inv-loop μ-loop
 enum-known-refusal-2 c = search needs
 
 returns-4 : tie.Need-returns-4 Inv-loop μ-loop
-returns-4 c = let l = c .before .before .before .before .before .before .before .loop in
-    let s = c .before .before .before .before .before .before .before .before .before .before .before .before .before .before .before .before .args .book .now in
-    let told : refused (numberOf (c .before .refusal2 .given .0 .0)) ≡ recordAnswer (drop (l .i) s) (aTerm (l .k)) =
-    ap saidRecord (sym (c .before .refusal2 .given .1)) ∙ c .before .before .before .term-answer .ensures ∙ ap (λ (r : List ℕ). recordAnswer r (aTerm (l .k))) (rest s (l .i)) in
-    sym (terms-bad (l .k) (l .i) (drop (l .i) s) (omega arith) (simp length-drop (omega arith)) told) ∙ l .inv .1
+returns-4 c =
+    sym (terms-bad _ _ _ (omega arith) (simp length-drop (omega arith)) (said-term (c .before .before .before) _ (c .before .refusal2 .given .1)))
+    ∙ c .before .before .before .before .before .before .before .loop .inv .1
 
 add-i-2 : tie.Need-add-i-2 Inv-loop μ-loop
 add-i-2 c = search needs
@@ -107,8 +112,7 @@ loop-less c = search needs
 loop-again : tie.Need-loop-again Inv-loop μ-loop
 loop-again c = let l = c .before .before .before .before .before .before .loop in
     let s = c .before .before .before .before .before .before .before .before .before .before .before .before .before .before .before .args .book .now in
-    let told : value tt ≡ recordAnswer (drop (l .i) s) (aTerm (l .k)) =
-    ap saidRecord (sym (c .enum-told2 .given .1)) ∙ c .before .before .term-answer .ensures ∙ ap (λ (r : List ℕ). recordAnswer r (aTerm (l .k))) (rest s (l .i)) in
+    let told = said-term (c .before .before) _ (c .enum-told2 .given .1) in
     (omega arith, cc (drop-drop 6 (l .i) s, terms-more (l .k) (l .i) (drop (l .i) s) (omega arith) (simp length-drop (omega arith)) told))
 
 returns-5 : tie.Need-returns-5 Inv-loop μ-loop

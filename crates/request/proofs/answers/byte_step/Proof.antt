@@ -33,11 +33,11 @@ returns c =
       next = rw q refl;
       text =
           rw q
-          (p .put-text .ensures .0
+          (p .put-text .ensures .first
           ∙ ap (λ (x : List ℕ). take (s .args .at) (s .args .out .now) ++ x) (t .answer-text .ensures .0 ∙ ap answerText (e .line-end .ensures)));
-      least = omega (arith, p .put-text .ensures .1);
-      most = omega (arith, p .put-text .ensures .1, t .answer-text .ensures .1);
-      rest = p .put-text .ensures .2;
+      least = omega (arith, p .put-text .ensures .end);
+      most = omega (arith, p .put-text .ensures .end, t .answer-text .ensures .1);
+      rest = p .put-text .ensures .rest;
     }
 
 line-step-requires : tie.Need-line-step-requires

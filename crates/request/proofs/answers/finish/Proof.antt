@@ -2,15 +2,15 @@
 use mathlib.Core.Path.{refl, sym, _∙_}
 use Prim.Native.Nat.{_≤_}
 use native.Mathlib.Omega.{arith}
+use borrow.Author.Tests.{lt-ltb, le-ltb}
 use lib.ListN.{length}
 use lib.Seq.{length-take-le}
-use Rattle.reasoning.proofs.Choice.{lt-yes, lt-no}
 use borrow.Author.Needs.{needs}
 use Rattle.request.proofs.answers.finish.Statement.{statement}
 use Rattle.request.proofs.answers.finish.Tie as tie
 
 returns : tie.Need-returns
-returns c = rw (lt-yes (c .if1 .taken)) (record { first = refl; counts = (omega arith, refl); rest = refl })
+returns c = rw (lt-ltb _ _ (c .if1 .taken)) (record { first = refl; counts = (omega arith, refl); rest = refl })
 
 last-text-requires : tie.Need-last-text-requires
 last-text-requires c κs = search needs
@@ -26,12 +26,12 @@ returns-2 c =
     let p = c .before .before in
     let k = p .before in
     let m : p .put-text .result ≤ length (p .put-text .last .0) =
-    omega (arith, p .put-text .ensures .1, k .last-text .ensures .1, p .put-text .kept .0) in
-    rw (lt-no (k .before .before .if1 .left))
+    omega (arith, p .put-text .ensures .end, k .last-text .ensures .1, p .put-text .kept .0) in
+    rw (le-ltb _ _ (k .before .before .if1 .left))
     (record {
-      first = p .put-text .ensures .0 ∙ k .last-text .ensures .0;
+      first = p .put-text .ensures .first ∙ k .last-text .ensures .0;
       counts = (m, sym (length-take-le (p .put-text .result) (p .put-text .last .0) m));
-      rest = p .put-text .ensures .2;
+      rest = p .put-text .ensures .rest;
     })
 
 pub finish-spec : {M : Type 1} → statement M

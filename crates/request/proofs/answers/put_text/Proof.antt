@@ -58,13 +58,14 @@ returns : tie.Need-returns Inv-loop μ-loop
 returns c =
     let l = c .before in
     let s = l .before .args in
-    let e : l .loop .i ≡ s .t3 .n = le-antisymm (l .loop .inv .0) (omega arith) in (
-      ap (λ (m : ℕ). take (s .at + m) (l .loop .out)) (sym e)
-          ∙ (l .loop .inv .2 ∙ ap (λ (m : ℕ). take (s .at) (s .out .now) ++ take m (s .t3 .bytes)) e),
-      refl,
-      ap (λ (m : ℕ). drop (s .at + m) (l .loop .out)) (sym e)
-          ∙ (l .loop .inv .3 ∙ ap (λ (m : ℕ). drop (s .at + m) (s .out .now)) e),
-    )
+    let e : l .loop .i ≡ s .t3 .n = le-antisymm (l .loop .inv .0) (omega arith) in
+    record {
+      first = ap (λ (m : ℕ). take (s .at + m) (l .loop .out)) (sym e)
+          ∙ (l .loop .inv .2 ∙ ap (λ (m : ℕ). take (s .at) (s .out .now) ++ take m (s .t3 .bytes)) e);
+      end = refl;
+      rest = ap (λ (m : ℕ). drop (s .at + m) (l .loop .out)) (sym e)
+          ∙ (l .loop .inv .3 ∙ ap (λ (m : ℕ). drop (s .at + m) (s .out .now)) e);
+    }
 
 pub put-text-spec : {M : Type 1} → statement M
 put-text-spec =

@@ -2,9 +2,8 @@
 use mathlib.Core.Path.{refl, ap, _∙_}
 use mir.Facts.{toZ-ofZ}
 use mir.Syntax.{w64}
-use borrow.Author.Tests.{eq-eqb, ne-eqb}
-use Rattle.reasoning.proofs.Choice.{lt-yes, lt-no}
-use Rattle.law.specs.Answer.{value}
+use borrow.Author.Tests.{eq-eqb, ne-eqb, lt-ltb, le-ltb}
+use Rattle.reasoning.specs.Answer.{value}
 use Rattle.request.proofs.ReadLine.{outside-by-size}
 use borrow.Author.Needs.{needs}
 use Rattle.request.proofs.line.line_end.Statement.{statement}
@@ -21,7 +20,7 @@ returns c = rw (c .before .before .line .given .1, eq-eqb _ _ (c .if1 .taken)) r
 
 returns-2 : tie.Need-returns-2
 returns-2 c =
-    rw (c .before .before .before .line .given .1, ne-eqb _ _ (c .before .if1 .left), outside-by-size, lt-yes (c .if2 .taken)) refl
+    rw (c .before .before .before .line .given .1, ne-eqb _ _ (c .before .if1 .left), outside-by-size, lt-ltb _ _ (c .if2 .taken)) refl
 
 signed-requires : tie.Need-signed-requires
 signed-requires c κs = search needs
@@ -34,7 +33,7 @@ returns-3 c = rw (c .enum-told .given .1) refl
 
 returns-4 : tie.Need-returns-4
 returns-4 c =
-    rw (c .before .before .before .before .line .given .1, ne-eqb _ _ (c .before .before .if1 .left), outside-by-size, lt-no (c .before .if2 .left))
+    rw (c .before .before .before .before .line .given .1, ne-eqb _ _ (c .before .before .if1 .left), outside-by-size, le-ltb _ _ (c .before .if2 .left))
     (ap value (toZ-ofZ {w = w64} (record { sfits = c .signed .ok }) ∙ c .signed .ensures))
 
 returns-5 : tie.Need-returns-5

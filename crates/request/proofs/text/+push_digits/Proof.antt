@@ -3,7 +3,7 @@ use mathlib.Core.Path.{_≡_, sym}
 use mathlib.Core.List.{append-nil}
 use native.Mathlib.Omega.{arith}
 use Rattle.law.specs.Request.{digitsOf}
-use Rattle.request.specs.Texts.{held}
+use Rattle.request.specs.Texts.{textBytes}
 use Rattle.request.proofs.text.Grows.{followed, last-digit, more-digits}
 use Prim.Native.Nat.{ℕ, _<_}
 use borrow.Fn.Kinds.{In}
@@ -36,7 +36,7 @@ push-digits-returns : (t : ℕ) → push-digits-lts.Need-returns (
   push-digits.Post,
 ) (push-digits-at t) push-digits.Post
 unfolding digitsOf
-push-digits-returns t c = rw (c .if1 .taken) (record { all = sym (append-nil (held (c .before .args .text))); within = omega arith })
+push-digits-returns t c = rw (c .if1 .taken) (record { all = sym (append-nil (textBytes (c .before .args .text))); within = omega arith })
 
 push-digits-cast-push : (t : ℕ) → push-digits-lts.Need-cast-push (
   push-reads.Asked,

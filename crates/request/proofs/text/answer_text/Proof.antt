@@ -3,7 +3,7 @@ use mathlib.Core.Path.{sym, ap, _∙_}
 use lib.IntN.{ℤ}
 use mir.Facts.{toZ-ofZ}
 use mir.Syntax.{w64}
-use Rattle.law.specs.Answer.{value}
+use Rattle.reasoning.specs.Answer.{value}
 use Rattle.law.specs.Request.{answerText}
 use Rattle.units.specs.declared.answer.Signed.{Signed}
 use Rattle.units.specs.Said.{saidSigned}

@@ -4,14 +4,13 @@ use Prim.Native.Nat.{_<_}
 use native.Mathlib.Omega.{arith}
 use lib.IntN.{ℤ}
 use mir.Facts.{toZ-ofZ}
-use Rattle.law.specs.Answer.{value}
+use Rattle.reasoning.specs.Answer.{value}
 use Rattle.law.specs.Document.{day, YearValues, badYear, solstice, fraction, yearAnswer}
 use Rattle.law.specs.Request.{yearText, yearWritten, answerText}
-use Rattle.law.proofs.Answers.{passed}
+use Rattle.reasoning.proofs.Answers.{passed}
 use Rattle.law.proofs.Floor.{floor-less}
 use Rattle.units.proofs.Callers.{told}
-use Rattle.sun.specs.Said.{saidYear}
-use Rattle.request.specs.Texts.{valuesOf}
+use Rattle.sun.specs.Said.{saidYear, valuesOfYear}
 use borrow.Author.Needs.{needs}
 use Rattle.request.proofs.text.year_answer.Statement.{statement}
 use Rattle.request.proofs.text.year_answer.Tie as tie
@@ -44,7 +43,7 @@ returns c =
     let N = y .before .before .before .args .n in
     let f = y .before .before .before .fits .n in (
       c .year-text .ensures .0
-          ∙ (ap (λ (z : ℤ). yearText z (valuesOf (y .year .given .0 .0))) (toZ-ofZ f)
+          ∙ (ap (λ (z : ℤ). yearText z (valuesOfYear (y .year .given .0 .0))) (toZ-ofZ f)
           ∙ ap (yearWritten N) (told saidYear yearAnswer f (y .before .before .year-of .ensures) (y .year .given .1))),
       c .year-text .ensures .1,
     )

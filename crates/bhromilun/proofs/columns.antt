@@ -1,2 +1,0 @@
--- What the proof of `columns_of` uses.
-pub mod FilledColumns

@@ -1,0 +1,2 @@
+-- What the proof of `bhromilun_terms` uses.
+pub mod WorkedTold
