@@ -27,17 +27,17 @@ pub(crate) fn record_size(kind: u8) -> usize
 }
 
 // Of a record of another kind than the one due, with so many bytes left from its first on: 8, 7 or 10.
-fn other_kind(kind: u8, left: usize) -> RecordAnswer
-    ensures { λ r. ⌜ saidRecord r ≡ otherKind kind left ⌝ }
+fn other_kind(kind: u8, left: usize) -> Refusal
+    ensures { λ r. ⌜ saidRecord (RecordAnswer.Refused r) ≡ otherKind kind left ⌝ }
 {
     let size = record_size(kind);
     if size == 0 {
-        return RecordAnswer::Refused(Refusal::KindUnknown);
+        return Refusal::KindUnknown;
     }
     if left < size {
-        return RecordAnswer::Refused(Refusal::RecordCutOff);
+        return Refusal::RecordCutOff;
     }
-    RecordAnswer::Refused(Refusal::OutOfTurn)
+    Refusal::OutOfTurn
 }
 
 // The record at the start of b, where a head is due whose N + 2,000 is at least so much.
@@ -47,7 +47,7 @@ pub(crate) fn head_answer(b: &[u8], least: u64) -> RecordAnswer
 {
     let kind = b[0];
     if kind != 1 {
-        return other_kind(kind, b.len());
+        return RecordAnswer::Refused(other_kind(kind, b.len()));
     }
     if b.len() < 5 {
         return RecordAnswer::Refused(Refusal::RecordCutOff);
@@ -75,7 +75,7 @@ pub(crate) fn term_answer(b: &[u8], k: u64) -> RecordAnswer
 {
     let kind = b[0];
     if kind != 2 {
-        return other_kind(kind, b.len());
+        return RecordAnswer::Refused(other_kind(kind, b.len()));
     }
     if b.len() < 6 {
         return RecordAnswer::Refused(Refusal::RecordCutOff);

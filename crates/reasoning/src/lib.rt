@@ -1,1 +1,1 @@
-// What the proofs of every crate above share and that knows no calendar: signed numbers, tests, tables, promises and walks. No code.
+// What knows no calendar: an answer that may be a refusal, values in order, and what the proofs of every crate above share (signed numbers, tests, tables, promises, walks). No code.
