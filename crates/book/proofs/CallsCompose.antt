@@ -71,9 +71,9 @@ module _ (s : List ℕ) (are : Bytes s) (list list′ : List TermRecord) (r : Re
 
 -- ---- what is written is read
 
-value-held : (a : Answer (List ℕ)) (b b′ : List ℕ) → value tt ≡ done a → b′ ≡ afterwards b a → a ≡ value b′
-value-held (value c) b b′ e q = ap value (sym q)
-value-held (refused n) b b′ e q = absurd (let z : _≡_ {A = ℕ} 0 1 = cc in omega arith)
+done-value : (a : Answer (List ℕ)) (b b′ : List ℕ) → value tt ≡ done a → b′ ≡ afterwards b a → a ≡ value b′
+done-value (value c) b b′ e q = ap value (sym q)
+done-value (refused n) b b′ e q = absurd (let z : _≡_ {A = ℕ} 0 1 = cc in omega arith)
 
 -- the buffer b′ read into a list says the head again, and leaves the terms there, each count 0
 pub record ReadAgain (head : Head) (list before after : List TermRecord) (r : ReadYear) : Type 0 where
@@ -86,7 +86,7 @@ pub written-then-read : (head : Head) (list : List TermRecord) (b b′ : List �
 written-then-read head list b b′ t before after r h read =
     let v = givenYear head (take 24 list) in
     let few : length (v .yearTerms) ≤ 24 = omega (arith, length-map (take 24 list) valuesOfTerm, take-few 24 list) in
-    let back = written-is-read v b b′ few (value-held (writeAnswer v b) b b′ (t .says) (t .holds)) (length before) h in
+    let back = written-is-read v b b′ few (done-value (writeAnswer v b) b b′ (t .says) (t .holds)) (length before) h in
     record {
       says = sym (read-answer-back (r .answer)) ∙ ap readAnswerFrom (read .year .says ∙ back .says);
       same = ap headFrom (read .year .head ∙ back .head);

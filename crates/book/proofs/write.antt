@@ -1,3 +1,3 @@
 -- What the proofs of this module's functions share.
 pub mod BufferFilled
-pub mod HeldRecords
+pub mod MeantRecords

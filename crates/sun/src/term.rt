@@ -36,7 +36,7 @@ pub enum TermAnswer {
     Refused(Refusal),
 }
 
-// The night before the first midnight past the mark, counted from day -4 on; the minute; the count.
+// The index of the day before the first midnight past the mark; the minute; the count.
 enum Walked {
     At(u64, u64, u64),
     Refused(Refusal),

@@ -38,8 +38,8 @@ module _ (e : ℕ) (N : ℤ) (room : ℕ) where
   fill-value o n h = rw (n .test, le-ltb room 24 h) (terms-value e o N n)
 
 -- all 24 of an array are held
-pub all-held : (l : List TermRecord) (f : ℕ → TermValues) → map valuesOfTerm l ≡ inOrder f 24 → map valuesOfTerm (take 24 l) ≡ inOrder f 24
-all-held l f q =
+pub all-meant : (l : List TermRecord) (f : ℕ → TermValues) → map valuesOfTerm l ≡ inOrder f 24 → map valuesOfTerm (take 24 l) ≡ inOrder f 24
+all-meant l f q =
     let long : length l ≡ 24 = sym (length-map l valuesOfTerm) ∙ (ap length q ∙ in-order-length f 24) in
     ap (map valuesOfTerm) (take-all 24 l (omega (arith, long))) ∙ q
 
@@ -63,7 +63,7 @@ worked-out {N} {y} {year} {answer} {w} n v k q =
     rw (← q)
     (record {
       says = ap saidDone (k .all);
-      kept = (k .count, ap (λ (c : ℕ). map valuesOfTerm (take c (w .records .at))) (k .count) ∙ all-held (w .records .at) (termOf epicycles y) (k .terms));
+      kept = (k .count, ap (λ (c : ℕ). map valuesOfTerm (take c (w .records .at))) (k .count) ∙ all-meant (w .records .at) (termOf epicycles y) (k .terms));
       terms = k .terms;
       values = ap valuesOfYear (k .same) ∙ (v ∙ sym (year-values-is (n .is)));
     })

@@ -19,7 +19,7 @@ use Rattle.sun.specs.Records.{meant}
 use Rattle.book.specs.Said.{givenYear}
 use Rattle.book.specs.Told.{yearRecords}
 use Rattle.book.proofs.Counts.{counted}
-use Rattle.book.proofs.write.HeldRecords.{held-all, held-few}
+use Rattle.book.proofs.write.MeantRecords.{meant-all, meant-few}
 use Rattle.book.proofs.WriteAnswers.{tell-refused, tell-done, name-bad, mansion-bad, terms-decide, write-1, list-6, buffer-6, write-9, write-done}
 use Rattle.book.proofs.write.write_records.Statement.{statement}
 use Rattle.book.proofs.write.write_records.Tie as tie
@@ -42,7 +42,7 @@ all-24 c = sym (length-map (c .before .before .before .before .before .before .b
 
 -- where the list is not refused, all 24 are meant
 whole : (c : tie.Else1) → meant (c .before .before .before .before .before .before .before .before .args .records) ≡ c .before .before .before .before .before .before .before .before .args .records .at
-whole c = held-all (c .before .before .before .before .before .before .before .before .args .records) (all-24 (c .before)) (omega arith)
+whole c = meant-all (c .before .before .before .before .before .before .before .before .args .records) (all-24 (c .before)) (omega arith)
 
 enough : (c : tie.Else1) → 24 ≤ length (given (c .before .before .before .before .before .before .before .before) .yearTerms)
 enough c = rw (whole c) (omega (arith, all-24 (c .before), length-map (c .before .before .before .before .before .before .before .before .args .records .at) valuesOfTerm))
@@ -65,7 +65,7 @@ returns c = let s = c .before .before .before .before .before in
 returns-2 : tie.Need-returns-2
 returns-2 c = let s = c .before .before .before .before .before .before .before .before in
     let b = s .args .buf .now in
-    let few = held-few (s .args .records) (all-24 (c .before)) (omega arith) in
+    let few = meant-few (s .args .records) (all-24 (c .before)) (omega arith) in
     tell-refused b (list-6 (given s) b (in-range (c .before .before .before) .test) (omega (arith, few, length-map (meant (s .args .records)) valuesOfTerm)))
 
 returns-3 : tie.Need-returns-3

@@ -53,7 +53,7 @@ use Rattle.book.specs.declared.write.Written.{Written}
 use Rattle.book.specs.Said.{givenYear}
 use Rattle.book.specs.Told.{Told}
 use Rattle.book.proofs.WriteAnswers.{tell-as}
-use Rattle.book.proofs.write.HeldRecords.{first-written}
+use Rattle.book.proofs.write.MeantRecords.{first-written}
 use Rattle.book.proofs.head.Head as Hd
 use Rattle.book.proofs.head.Head.Laws as Hd′
 use Rattle.book.proofs.write.Written as Wr

@@ -18,11 +18,11 @@ use Rattle.book.specs.Said.{givenYear}
 -- ---- the records that are meant
 
 module _ (r : Records) (l : length (r .at) ≡ 24) where
-  pub held-all : 24 ≤ r .count → meant r ≡ r .at
-  held-all h = take-all (r .count) (r .at) (omega arith)
+  pub meant-all : 24 ≤ r .count → meant r ≡ r .at
+  meant-all h = take-all (r .count) (r .at) (omega arith)
 
-  pub held-few : r .count < 24 → length (meant r) < 24
-  held-few h = let e = length-take-le (r .count) (r .at) (omega arith) in omega arith
+  pub meant-few : r .count < 24 → length (meant r) < 24
+  meant-few h = let e = length-take-le (r .count) (r .at) (omega arith) in omega arith
 
 -- ---- a list given to be written
 
@@ -33,9 +33,9 @@ unfolding writeAnswer
 write-few head ts us b h g =
     rw (lt-ltb (length (map valuesOfTerm ts)) 24 (rw (length-map ts valuesOfTerm) h), lt-ltb (length (map valuesOfTerm us)) 24 (rw (length-map us valuesOfTerm) g)) refl
 
-first-held : (l : List TermRecord) → 24 ≤ length l → meant (firstRecords (length l) l) ≡ take 24 l
+first-meant : (l : List TermRecord) → 24 ≤ length l → meant (firstRecords (length l) l) ≡ take 24 l
 unfolding firstCount
-first-held l h =
+first-meant l h =
     let n = length-take-le 24 l h in
     rw (le-leb 24 (length l) h) (ap (take 24) (append-nil (take 24 l)) ∙ take-all 24 (take 24 l) (omega arith))
 
@@ -53,4 +53,4 @@ first-written head l b = by (decLt (length l) 24)
         let few : length (meant (firstRecords (length l) l)) < 24 = rw none (omega arith) in
         let all : take 24 l ≡ l = take-all 24 l (omega arith) in
         write-few head (meant (firstRecords (length l) l)) (take 24 l) b few (rw all h)
-    by (no h) = ap (λ (ts : List TermRecord). writeAnswer (givenYear head ts) b) (first-held l (omega arith))
+    by (no h) = ap (λ (ts : List TermRecord). writeAnswer (givenYear head ts) b) (first-meant l (omega arith))
