@@ -5,3 +5,4 @@ pub mod ByHand
 pub mod Indexed
 pub mod Answers
 pub mod InOrder
+pub mod AnswerFacts
