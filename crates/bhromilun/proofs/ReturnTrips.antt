@@ -11,10 +11,10 @@ use Rattle.law.specs.Document.{TermValues}
 use Rattle.law.specs.Book.{Checked, sound, HeadValues, yearFrom, termsIn, valuesIn, headRead, termsRead, writeAnswer}
 use Rattle.reasoning.specs.InOrder.{inOrder}
 use Rattle.reasoning.proofs.InOrder.{in-order-length, in-order-same, filled-all}
-use Rattle.book.proofs.ReadValues.{terms-many, read-as}
-use Rattle.book.proofs.WrittenIsRead.{uncounted}
-use Rattle.book.proofs.ReadIsWritten.{Bytes}
-use Rattle.book.proofs.ReturnTrips as by-value
+use Rattle.values.proofs.ReadValues.{terms-many, read-as}
+use Rattle.values.proofs.WrittenIsRead.{uncounted}
+use Rattle.values.proofs.ReadIsWritten.{Bytes}
+use Rattle.values.proofs.ReturnTrips as by-value
 use Rattle.bhromilun.specs.Columns.{daysOf, minutesOf, termGiven, termsGiven}
 use Rattle.bhromilun.specs.Books.{yearGiven}
 

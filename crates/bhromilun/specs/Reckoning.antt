@@ -19,7 +19,7 @@ saidListed listed.All terms = value terms
 saidListed (listed.Refused r) terms = refused (numberOf r)
 
 abbrev pub saidWorked : WorkedYear → Answer (List TermValues)
-saidWorked year = saidListed (year .answer) (map valuesOfTerm (year .records .at))
+saidWorked year = saidListed (year .answer) (map valuesOfTerm (year .terms))
 
 pub record ToldYear (answer : Answer YearValues) (r : ℕ) (dayName fraction mansion : Lent ℕ) : Type 0 where
   pub number : r ≡ refusalIn answer

@@ -4,8 +4,8 @@ use crate::columns::terms_from;
 use crate::tell::tell_check;
 use crate::tell::tell_sought;
 use crate::tell::tell_written;
-use book::Head;
-use book::ReadAnswer;
+use book::BookAnswer;
+use values::Head;
 ghost use Rattle.law.specs.Document.{epicycles};
 ghost use Rattle.law.specs.Book.{writeAnswer, workedAnswer, bookOf, seekOf};
 ghost use Rattle.bhromilun.specs.Told.{Told, lent};
@@ -16,7 +16,7 @@ ghost use Rattle.bhromilun.specs.Books.{ToldCheck, ToldSought, ToldRead,
 pub extern "C" fn bhromilun_write_year(n: i64, buffer: &mut [u8]) -> u64
     ensures { λ r. ⌜ Told (workedAnswer epicycles n (now (buffer .entry))) r (lent buffer) ⌝ }
 {
-    tell_written(book::write_year(n, buffer))
+    tell_written(values::write_year(n, buffer))
 }
 
 // Checks a book. The byte is the book's length where it is sound; else that of the record at fault.
@@ -56,29 +56,26 @@ pub extern "C" fn bhromilun_read_year(
 ) -> u64
     ensures { λ r. ⌜ ToldRead (now (bytes .entry)) r (lent n) (lent «day_name») (lent mansion) (lent days) (lent minutes) (lent end) (lent byte) ⌝ }
 {
-    let read = book::read_values(bytes);
-    let year = read.year;
-    let answer = year.answer;
+    let read = values::read_values(bytes);
+    let answer = read.answer;
     match answer {
-        ReadAnswer::Sound(after) => {
-            let head = year.head;
+        BookAnswer::Sound(after) => {
+            let head = read.head;
             let number = head.n;
             *n = number;
             *day_name = head.day_name;
             *mansion = head.mansion;
             // Each is 0, and none is asked for.
             let mut counts = [0u64; 24];
-            let at = read.records.at;
-            store_columns(at, days, minutes, &mut counts);
+            let terms = read.terms;
+            store_columns(terms, days, minutes, &mut counts);
             *end = after;
             0
         }
-        ReadAnswer::Unsound(refusal, at) => {
+        BookAnswer::Refused(refusal, at) => {
             *byte = at;
             units::refusal_number(refusal)
         }
-        // for a list that is too short, and none was lent
-        ReadAnswer::Refused(refusal) => units::refusal_number(refusal),
     }
 }
 
@@ -99,6 +96,6 @@ pub extern "C" fn bhromilun_write_year_from(
         day_name,
         mansion,
     };
-    let at = terms_from(days, minutes);
-    tell_written(book::write_values(head, at, buffer))
+    let terms = terms_from(days, minutes);
+    tell_written(values::write_values(head, terms, buffer))
 }

@@ -2,7 +2,6 @@
 use crate::columns::store_columns;
 use book::BookAnswer;
 use book::Sought;
-use book::Written;
 use local::LocalAnswer;
 use sun::Listed;
 use sun::TermAnswer;
@@ -10,12 +9,14 @@ use sun::WorkedYear;
 use sun::YearAnswer;
 use units::Number;
 use units::Signed;
+use values::Written;
 ghost use mathlib.Core.Path.{_≡_};
 ghost use Rattle.reasoning.specs.Answer.{refusalIn};
 ghost use Rattle.units.specs.Said.{saidNumber, saidSigned};
 ghost use Rattle.local.specs.Said.{saidLocal};
 ghost use Rattle.sun.specs.Said.{saidYear, saidTerm};
-ghost use Rattle.book.specs.Said.{saidChecked, saidSought, saidWritten};
+ghost use Rattle.book.specs.Said.{saidChecked, saidSought};
+ghost use Rattle.values.specs.Said.{saidWritten};
 ghost use Rattle.bhromilun.specs.Told.{Told, lent};
 ghost use Rattle.bhromilun.specs.Reckoning.{saidWorked, ToldYear, ToldTerm, ToldTerms, ToldLocal};
 ghost use Rattle.bhromilun.specs.Books.{ToldCheck, ToldSought};
@@ -89,8 +90,8 @@ pub(crate) fn tell_terms(
     let answer = year.answer;
     match answer {
         Listed::All => {
-            let at = year.records.at;
-            store_columns(at, days, minutes, counts);
+            let terms = year.terms;
+            store_columns(terms, days, minutes, counts);
             0
         }
         Listed::Refused(refusal) => units::refusal_number(refusal),

@@ -41,12 +41,12 @@ module _ (s : List ℕ) (at least : ℕ) where
   unfolding nextAt
   end-reached q = leb-true (length s) at (of-end (leb (length s) at) (yearFrom least at (drop at s)) (leastAfter (drop at s)) q)
 
-  year-found : (e l : ℕ) → nextAt s at least ≡ nextYear e l → (at < length s) × (yearFrom least at (drop at s) ≡ sound e) × (l ≡ leastAfter (drop at s))
+  pub year-found : (e l : ℕ) → nextAt s at least ≡ nextYear e l → (at < length s) × (yearFrom least at (drop at s) ≡ sound e) × (l ≡ leastAfter (drop at s))
   unfolding nextAt
   year-found e l q =
       let w = of-year (leb (length s) at) (yearFrom least at (drop at s)) (leastAfter (drop at s)) e l q in (leb-false (length s) at (w .0), w .1, w .2)
 
-  fault-found : (n p : ℕ) → nextAt s at least ≡ stop n p → (at < length s) × (yearFrom least at (drop at s) ≡ faulty n p)
+  pub fault-found : (n p : ℕ) → nextAt s at least ≡ stop n p → (at < length s) × (yearFrom least at (drop at s) ≡ faulty n p)
   unfolding nextAt
   fault-found n p q =
       let w = of-stop (leb (length s) at) (yearFrom least at (drop at s)) (leastAfter (drop at s)) n p q in (leb-false (length s) at (w .0), w .1)

@@ -2,17 +2,8 @@ pub mod RecordAnswers
 pub mod YearSteps
 pub mod BytesLeft
 pub mod BookSteps
-pub mod Counts
-pub mod ReadValues
-pub mod WriteAnswers
-pub mod WorkedFits
-pub mod WrittenIsRead
-pub mod ReadIsWritten
 pub mod WholeBooks
 pub mod HeldFast
 pub mod ReaderStays
 pub mod ReaderParts
 pub mod SeekFinds
-pub mod BookAgain
-pub mod ReturnTrips
-pub mod CallsCompose

@@ -1,6 +1,6 @@
 // One record: its refusal in the order 8, 7, 10, 9, where a head or a term is due.
+use crate::bytes::byte_at;
 use crate::bytes::two_at;
-use crate::bytes::wide;
 use units::Refusal;
 ghost use mathlib.Core.Path.{_≡_};
 ghost use Prim.Native.Nat.{_<_};
@@ -80,7 +80,7 @@ pub(crate) fn term_answer(b: &[u8], k: u64) -> RecordAnswer
     if b.len() < 6 {
         return RecordAnswer::Refused(Refusal::RecordCutOff);
     }
-    if wide(b[1]) != k {
+    if byte_at(b, 1) != k {
         return RecordAnswer::Refused(Refusal::OutOfTurn);
     }
     if 374 < two_at(b, 2) {

@@ -2,8 +2,8 @@
 use crate::bytes::byte_at;
 use crate::bytes::two_at;
 use crate::readers;
+use crate::read::read_year;
 use crate::refusals::refused_at;
-use crate::values;
 use book::BookAnswer;
 use book::Sought;
 use console::number;
@@ -16,9 +16,9 @@ fn fill(room: &mut [u8]) {
     if room.len() < 600 {
         return;
     }
-    book::write_year(-676, room);
-    book::write_year(0, &mut room[149..]);
-    book::write_year(321, &mut room[298..]);
+    values::write_year(-676, room);
+    values::write_year(0, &mut room[149..]);
+    values::write_year(321, &mut room[298..]);
 }
 
 fn base_book() -> [u8; 600] {
@@ -51,7 +51,7 @@ fn line(bytes: &[u8]) {
     text(b" | ");
     sought(bytes);
     text(b" | ");
-    values::read(bytes);
+    read_year(bytes);
     text(b" | ");
     readers::calls(bytes);
     text(b"\n");

@@ -3,9 +3,9 @@
 // and byte. tests/expected.py makes stdin and stdout.
 mod bytes;
 mod damaged;
+mod read;
 mod readers;
 mod refusals;
-mod values;
 mod written;
 
 use libc::STDIN_FILENO;

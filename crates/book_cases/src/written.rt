@@ -1,12 +1,12 @@
 // Years worked out and written, years written from values, and their refusals, with the whole buffer afterwards.
-use book::Head;
-use book::Written;
 use console::number;
 use console::refused;
 use console::signed;
 use console::text;
 use libc::STDOUT_FILENO;
 use sun::TermRecord;
+use values::Head;
+use values::Written;
 
 fn wide(byte: u8) -> u64 {
     byte as u64
@@ -34,7 +34,7 @@ fn answer(written: Written, buffer: &[u8]) {
 
 fn year_into(n: i64, buffer: &mut [u8], room: usize) {
     if room <= buffer.len() {
-        let written = book::write_year(n, &mut buffer[..room]);
+        let written = values::write_year(n, &mut buffer[..room]);
         answer(written, buffer);
     }
 }
@@ -52,7 +52,7 @@ fn year(n: i64, room: usize) {
 
 fn values_into(head: Head, term: TermRecord, buffer: &mut [u8], room: usize) {
     if room <= buffer.len() {
-        let written = book::write_values(head, [term; 24], &mut buffer[..room]);
+        let written = values::write_values(head, [term; 24], &mut buffer[..room]);
         answer(written, buffer);
     }
 }

@@ -4,7 +4,7 @@ mod answers;
 mod each;
 mod entries;
 mod equations;
-mod lists;
+mod filled;
 mod local_times;
 mod places;
 mod terms;
@@ -16,6 +16,6 @@ fn main() {
     equations::lines();
     places::lines();
     terms::lines();
-    lists::lines();
+    filled::lines();
     local_times::lines();
 }

@@ -48,7 +48,7 @@ fn draw(n: i64) {
         Listed::All => {
             let mut page = [0u8; FULL];
             let year = worked.year;
-            let terms = worked.records.at;
+            let terms = worked.terms;
             let size = picture::picture(&mut page, n, year, terms);
             write(&page, size);
         }

@@ -5,7 +5,7 @@ use lib.IntN.{ℤ}
 use mathlib.Core.List.{List, [], _∷_, map}
 use Rattle.reasoning.proofs.HeldFast.{Held, by-facts, one, one-said}
 use Rattle.reasoning.specs.Answer.{Answer, value, refused}
-use Rattle.law.specs.Document.{epicycles, YearValues, TermValues, termsAnswer}
+use Rattle.law.specs.Document.{YearValues, TermValues}
 use Rattle.units.specs.Said.{saidNumber, saidSigned}
 use Rattle.units.proofs.HeldFast.{refusalOf, refusal-back, numberBack, number-back, signedBack, signed-back}
 use Rattle.sun.specs.declared.year.Year.{Year}
@@ -14,12 +14,11 @@ use Rattle.sun.specs.declared.year.YearAnswer.the-variants as year
 use Rattle.sun.specs.declared.term.TermRecord.{TermRecord}
 use Rattle.sun.specs.declared.term.TermAnswer.{TermAnswer}
 use Rattle.sun.specs.declared.term.TermAnswer.the-variants as term
-use Rattle.sun.specs.declared.records.Records.{Records}
 use Rattle.sun.specs.declared.worked_year.Listed.{Listed}
 use Rattle.sun.specs.declared.worked_year.Listed.the-variants as listed
 use Rattle.sun.specs.declared.worked_year.WorkedYear.{WorkedYear}
 use Rattle.sun.specs.Said.{valuesOfYear, saidYear, valuesOfTerm, saidTerm}
-use Rattle.sun.specs.Records.{saidDone, keeps, WorkedOut}
+use Rattle.sun.specs.Worked.{saidDone, WorkedOut}
 use Rattle.sun.proofs.year.year_of as year-of
 use Rattle.sun.proofs.equation.equation_at as equation-at
 use Rattle.sun.proofs.place.mean_place as mean-place
@@ -27,9 +26,6 @@ use Rattle.sun.proofs.place.true_place as true-place
 use Rattle.sun.proofs.place.run_on_place as run-on-place
 use Rattle.sun.proofs.term.term_of as term-of
 use Rattle.sun.proofs.worked_year.work_year as work-year
-use Rattle.sun.proofs.records.store_records as store-records
-use Rattle.sun.proofs.records.first_records as first-records
-use Rattle.sun.proofs.records.fill_terms as fill-terms
 
 -- ---- the readings of answers can be taken back
 
@@ -83,37 +79,21 @@ term-of-held M 𝓤 H A mem run κs a = by-facts 𝓤 (λ z z′ w w′ p q. (on
 pub one-records : {s : List TermValues} {l l′ : List TermRecord} → map valuesOfTerm l ≡ s → map valuesOfTerm l′ ≡ s → l ≡ l′
 one-records p q = one-said (map valuesOfTerm) (map recordFrom) records-back p q
 
-abbrev doneFrom : Answer Unit → Listed
+abbrev pub doneFrom : Answer Unit → Listed
 doneFrom (value u) = listed.All
 doneFrom (refused k) = listed.Refused (refusalOf k)
 
-done-back : (r : Listed) → doneFrom (saidDone r) ≡ r
+pub done-back : (r : Listed) → doneFrom (saidDone r) ≡ r
 done-back listed.All = refl
 done-back (listed.Refused r) = ap listed.Refused (refusal-back r)
 
--- a year by value: its answer, how many records are meant, all 24 of them, and the year's values
-one-count : (s : Answer (List TermValues)) (r r′ : Records) → keeps r s → keeps r′ s → r .count ≡ r′ .count
-one-count (value terms) r r′ p q = one (p .0) (q .0)
-one-count (refused n) r r′ p q = one p q
-
-one-year : (N : ℤ) (s : Answer (List TermValues)) (z z′ : WorkedYear) → WorkedOut N s z → WorkedOut N s z′ → z ≡ z′
-one-year N s z z′ p q =
+-- a year by value: its answer, its values and its terms
+one-year : {N : ℤ} {s : Answer (List TermValues)} (z z′ : WorkedYear) → WorkedOut N s z → WorkedOut N s z′ → z ≡ z′
+one-year z z′ p q =
     let answers : z .answer ≡ z′ .answer = one-said saidDone doneFrom done-back (p .says) (q .says) in
-    let records : z .records ≡ z′ .records =
-    ap₂ (λ (n : ℕ) (l : List TermRecord). record { count = n; at = l }) (one-count s (z .records) (z′ .records) (p .kept) (q .kept)) (one-records (p .terms) (q .terms)) in
     let years : z .year ≡ z′ .year = one-said valuesOfYear yearOf (λ (y : Year). refl) (p .values) (q .values) in
-    let made : Listed → Records → Year → WorkedYear = λ a r y. record { answer = a; records = r; year = y } in
-    ap₂ (λ (a : Listed) (r : Records). made a r (z .year)) answers records ∙ ap (made (z′ .answer) (z′ .records)) years
+    let made : Listed → Year → List TermRecord → WorkedYear = λ a y l. record { answer = a; year = y; terms = l } in
+    ap₂ (λ (a : Listed) (y : Year). made a y (z .terms)) answers years ∙ ap (made (z′ .answer) (z′ .year)) (one-records (p .terms) (q .terms))
 
 pub work-year-held : Held work-year.ended (λ M. work-year.clauses {M = M})
-work-year-held M 𝓤 H A mem run κs a = by-facts 𝓤 (λ z z′ w w′ p q. (one-year (a .0) (termsAnswer epicycles (a .0)) z z′ p q, refl))
-
-pub store-records-held : Held store-records.ended (λ M. store-records.clauses {M = M})
-store-records-held M 𝓤 H A mem run κs a = by-facts 𝓤 (λ z z′ w w′ p q. (refl, ap (λ l. (l, (tt, tt))) (one p q)))
-
-pub first-records-held : Held first-records.ended (λ M. first-records.clauses {M = M})
-first-records-held M 𝓤 H A mem run κs a = by-facts 𝓤 (λ z z′ w w′ p q. (one p q, refl))
-
-pub fill-terms-held : Held fill-terms.ended (λ M. fill-terms.clauses {M = M})
-fill-terms-held M 𝓤 H A mem run κs a =
-    by-facts 𝓤 (λ z z′ w w′ p q. (one-said saidDone doneFrom done-back (p .says) (q .says), ap (λ l. (l, (tt, tt))) (one-records (p .list) (q .list))))
+work-year-held M 𝓤 H A mem run κs a = by-facts 𝓤 (λ z z′ w w′ p q. (one-year z z′ p q, refl))

@@ -1,3 +1,1 @@
 pub mod HeldFast
-pub mod ListFilled
-pub mod LentList

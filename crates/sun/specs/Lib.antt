@@ -2,4 +2,4 @@ pub mod YearAndDay
 pub mod Said
 pub mod Tables
 pub mod Walks
-pub mod Records
+pub mod Worked

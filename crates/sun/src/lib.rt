@@ -3,7 +3,6 @@
 mod constants;
 mod equation;
 mod place;
-mod records;
 mod term;
 mod worked_year;
 mod year;
@@ -12,10 +11,6 @@ pub use equation::equation_at;
 pub use place::mean_place;
 pub use place::run_on_place;
 pub use place::true_place;
-pub use records::Records;
-pub use records::fill_terms;
-pub use records::first_records;
-pub use records::store_records;
 pub use term::TermAnswer;
 pub use term::TermRecord;
 pub use term::ZERO_RECORD;

@@ -1,6 +1,6 @@
 // A year worked out by value: its four values and its 24 terms. Both tables are laid out once, and the root is worked out once.
-use crate::records::Records;
 use crate::term::TermAnswer;
+use crate::term::TermRecord;
 use crate::term::ZERO_RECORD;
 use crate::term::term_in;
 use crate::year::Year;
@@ -9,29 +9,25 @@ use units::Number;
 use units::Refusal;
 ghost use mathlib.Core.Path.{_≡_};
 ghost use Prim.Native.Nat.{_≤_};
-ghost use Rattle.law.specs.Document.{epicycles, termsAnswer, fillAnswer};
+ghost use Rattle.law.specs.Document.{epicycles, termsAnswer};
 ghost use Rattle.motion.specs.Working.{rootOf};
-ghost use Rattle.sun.specs.Records.{refusedYear, WorkedIn, WorkedOut};
+ghost use Rattle.sun.specs.Worked.{refusedYear, WorkedIn, WorkedOut};
 
 pub enum Listed {
     All,
     Refused(Refusal),
 }
 
-// On a refusal no record is meant, and all are 0, as the year's values are.
+// On a refusal the year's values and the terms are 0.
 pub struct WorkedYear {
     pub answer: Listed,
-    pub records: Records,
     pub year: Year,
+    pub terms: [TermRecord; 24],
 }
 
 fn refused_year(refusal: Refusal) -> WorkedYear
     ensures { λ r. ⌜ r ≡ refusedYear refusal ⌝ }
 {
-    let records = Records {
-        count: 0,
-        at: [ZERO_RECORD; 24],
-    };
     let year = Year {
         day_name: 0,
         fraction: 0,
@@ -40,8 +36,8 @@ fn refused_year(refusal: Refusal) -> WorkedYear
     };
     WorkedYear {
         answer: Listed::Refused(refusal),
-        records,
         year,
+        terms: [ZERO_RECORD; 24],
     }
 }
 
@@ -53,12 +49,12 @@ fn worked_in(y: u64, year: Year) -> WorkedYear
     let sines = tables::sine_table();
     let tangents = tables::tangent_table();
     let root = year.root;
-    let mut at = [ZERO_RECORD; 24];
+    let mut terms = [ZERO_RECORD; 24];
     let mut k: usize = 0;
     while k < 24 {
         match term_in(y, root, k as u64, &sines, &tangents) {
             TermAnswer::Is(term) => {
-                at[k] = term;
+                terms[k] = term;
             }
             TermAnswer::Refused(refusal) => {
                 return refused_year(refusal);
@@ -66,30 +62,19 @@ fn worked_in(y: u64, year: Year) -> WorkedYear
         }
         k += 1;
     }
-    let records = Records { count: 24, at };
     WorkedYear {
         answer: Listed::All,
-        records,
         year,
+        terms,
     }
-}
-
-// The year n for a list of so many records.
-pub(crate) fn work_for(n: i64, room: usize) -> WorkedYear
-    ensures { λ r. ⌜ WorkedOut n (fillAnswer epicycles n room) r × (r .records .count ≤ room) ⌝ }
-{
-    let Number::Is(y) = units::year_index(n) else {
-        return refused_year(Refusal::YearOutside);
-    };
-    if room < 24 {
-        return refused_year(Refusal::TooShort);
-    }
-    worked_in(y, year_in(y))
 }
 
 // The year n.
 pub fn work_year(n: i64) -> WorkedYear
     ensures { λ r. ⌜ WorkedOut n (termsAnswer epicycles n) r ⌝ }
 {
-    work_for(n, 24)
+    let Number::Is(y) = units::year_index(n) else {
+        return refused_year(Refusal::YearOutside);
+    };
+    worked_in(y, year_in(y))
 }

@@ -16,6 +16,7 @@ use Rattle.units.specs.Said.{numberOf, saidNumber, saidSigned}
 use Rattle.units.proofs.refusal.refusal_number as refusal-number
 use Rattle.units.proofs.index.year_index as year-index
 use Rattle.units.proofs.index.day_index as day-index
+use Rattle.units.proofs.index.no_room as no-room
 use Rattle.units.proofs.arithmetic.size as size
 use Rattle.units.proofs.arithmetic.half_up as half-up
 use Rattle.units.proofs.arithmetic.in_circle as in-circle
@@ -79,6 +80,9 @@ year-index-held M 𝓤 H A mem run κs a = by-facts 𝓤 (λ z z′ w w′ p q. 
 
 pub day-index-held : Held day-index.ended (λ M. day-index.clauses {M = M})
 day-index-held M 𝓤 H A mem run κs a = by-facts 𝓤 (λ z z′ w w′ p q. (one-said saidNumber numberBack number-back p q, refl))
+
+pub no-room-held : Held no-room.ended (λ M. no-room.clauses {M = M})
+no-room-held M 𝓤 H A mem run κs a = by-facts 𝓤 (λ z z′ w w′ p q. (one p q, refl))
 
 pub size-held : Held size.ended (λ M. size.clauses {M = M})
 size-held M 𝓤 H A mem run κs a = by-facts 𝓤 (λ z z′ w w′ p q. (one p q, refl))

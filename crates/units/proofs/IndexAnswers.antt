@@ -1,13 +1,15 @@
 -- What an index tells of the N or the day behind it: the document's test, and its reading as a count. Assumes nothing.
-use mathlib.Core.Path.{_≡_}
-use mathlib.Core.Bool.{true}
+use mathlib.Core.Path.{_≡_, refl}
+use mathlib.Core.Bool.{Bool, true, false, cond}
 use Prim.Native.Nat.{ℕ}
 use lib.IntN.{ℤ, pos, natAbs, _+ℤ_}
 use Rattle.reasoning.proofs.Indexed.{Indexed, indexed}
-use Rattle.reasoning.specs.Answer.{value, refused}
+use Rattle.reasoning.specs.Answer.{value, refused, refusing}
 use Rattle.law.specs.Document.{badYear, badDay}
 use Rattle.reasoning.proofs.Answers.{passed, stopped}
-use Rattle.units.specs.IndexAnswers.{yearIndexAnswer, dayIndexAnswer}
+use Rattle.units.specs.declared.refusal.Refusal.the-variants.{YearOutside, TooShort}
+use Rattle.units.specs.Said.{numberOf}
+use Rattle.units.specs.IndexAnswers.{yearIndexAnswer, dayIndexAnswer, noRoom}
 
 pub year-in : (N : ℤ) {y : ℕ} → value y ≡ yearIndexAnswer N → Indexed 2_000 2_000 N y
 unfolding yearIndexAnswer
@@ -24,3 +26,11 @@ day-in d {j} e = let p = passed (badDay d) 2 (natAbs (d +ℤ pos 4)) e in indexe
 pub day-out : (d : ℤ) {k : ℕ} → refused k ≡ dayIndexAnswer d → badDay d ≡ true
 unfolding dayIndexAnswer
 day-out d e = stopped (badDay d) 2 (natAbs (d +ℤ pos 4)) e .test
+
+-- a list or a buffer that is too short
+pub no-room-answer : {A : Type 0} (N : ℤ) → refusing {A = A} (badYear N) 1 (refused 6) ≡ refused (numberOf (noRoom N))
+no-room-answer N = one-or-six (badYear N)
+  where
+    one-or-six : {A : Type 0} (p : Bool) → refusing {A = A} p 1 (refused 6) ≡ refused (numberOf (cond p YearOutside TooShort))
+    one-or-six true = refl
+    one-or-six false = refl

@@ -3,3 +3,4 @@ pub mod IndexAnswers
 pub mod Machine
 pub mod HeldFast
 pub mod Callers
+pub mod Counts

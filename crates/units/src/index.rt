@@ -2,7 +2,7 @@
 use crate::answer::Number;
 use crate::refusal::Refusal;
 ghost use mathlib.Core.Path.{_≡_};
-ghost use Rattle.units.specs.IndexAnswers.{yearIndexAnswer, dayIndexAnswer};
+ghost use Rattle.units.specs.IndexAnswers.{yearIndexAnswer, dayIndexAnswer, noRoom};
 ghost use Rattle.units.specs.Said.{saidNumber};
 
 // N + 2,000, or refusal 1.
@@ -23,4 +23,14 @@ pub fn day_index(d: i64) -> Number
         return Number::Refused(Refusal::DayOrMinuteOutside);
     }
     Number::Is((d + 4) as u64)
+}
+
+// The refusal where a list or a buffer has no room for the year n: 1, then 6.
+pub fn no_room(n: i64) -> Refusal
+    ensures { λ r. ⌜ r ≡ noRoom n ⌝ }
+{
+    match year_index(n) {
+        Number::Is(_) => Refusal::TooShort,
+        Number::Refused(_) => Refusal::YearOutside,
+    }
 }

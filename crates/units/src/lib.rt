@@ -12,6 +12,7 @@ pub use arithmetic::half_up;
 pub use arithmetic::in_circle;
 pub use arithmetic::size;
 pub use index::day_index;
+pub use index::no_room;
 pub use index::year_index;
 pub use refusal::Refusal;
 pub use refusal::refusal_number;

@@ -10,7 +10,7 @@ use Rattle.sun.specs.declared.worked_year.Listed.{Listed}
 use Rattle.sun.specs.declared.worked_year.Listed.the-variants as listed
 use Rattle.sun.specs.declared.worked_year.WorkedYear.{WorkedYear}
 use Rattle.sun.specs.Said.{valuesOfTerm}
-use Rattle.sun.specs.Records.{saidDone, termsOrZeros, WorkedOut}
+use Rattle.sun.specs.Worked.{saidDone, termsOrZeros, WorkedOut}
 use Rattle.bhromilun.specs.Reckoning.{saidListed, saidWorked}
 
 said-list : (l : Listed) (terms : List TermValues) (answer : Answer (List TermValues)) → saidDone l ≡ done answer → terms ≡ termsOrZeros answer
@@ -21,4 +21,4 @@ said-list (listed.Refused r) terms (value known) e q = absurd (let z : _≡_ {A 
 said-list (listed.Refused r) terms (refused n) e q = ap refused (cc)
 
 pub said-worked : {N : ℤ} {answer : Answer (List TermValues)} {w : WorkedYear} → WorkedOut N answer w → saidWorked w ≡ answer
-said-worked {answer} {w} k = said-list (w .answer) (map valuesOfTerm (w .records .at)) answer (k .says) (k .terms)
+said-worked {answer} {w} k = said-list (w .answer) (map valuesOfTerm (w .terms)) answer (k .says) (k .terms)

@@ -3,21 +3,20 @@ use borrow.Author.Needs.{needs, sfits-of}
 use mathlib.Core.Path.{_≡_, sym, _∙_, ap}
 use mir.Facts.{toZ-ofZ}
 use Rattle.reasoning.specs.Answer.{value}
-use Rattle.reasoning.proofs.Answers.{same-value, never}
 use Rattle.law.specs.Book.{Checked, yearFrom, headRead, termsRead}
-use Rattle.sun.specs.Records.{termsOrZeros}
-use Rattle.book.specs.Said.{saidReadAnswer}
+use Rattle.sun.specs.Worked.{termsOrZeros}
+use Rattle.book.specs.Said.{saidChecked}
 use Rattle.bhromilun.specs.Columns.{daysOf, minutesOf}
 use Rattle.bhromilun.proofs.books.bhromilun_read_year.Statement.{statement}
 use Rattle.bhromilun.proofs.books.bhromilun_read_year.Tie as tie
 
 returns : tie.Need-returns
 returns c =
-    let call = c .before .before .before .before .before .before .before .before .before .before .before .read-values .ensures in
+    let call = c .before .before .before .before .before .before .before .before .before .before .read-values .ensures in
     let columns = c .store-columns .ensures in
-    let b = c .before .before .before .before .before .before .before .before .before .before .before .before .before .args .bytes .now in
-    let told : yearFrom 0 0 b ≡ _ = same-value (sym (call .year .says) ∙ ap saidReadAnswer (c .before .before .before .before .before .before .before .before .answer .given .1)) in
-    let head = call .year .head ∙ ap (λ (a : Checked). headRead (value a) b) told in
+    let b = c .before .before .before .before .before .before .before .before .before .before .before .before .args .bytes .now in
+    let told : yearFrom 0 0 b ≡ _ = sym (call .says) ∙ ap saidChecked (c .before .before .before .before .before .before .before .before .answer .given .1) in
+    let head = call .head ∙ ap (λ (a : Checked). headRead (value a) b) told in
     let terms = call .terms ∙ ap (λ (a : Checked). termsOrZeros (termsRead (value a) b)) told in
     record {
       number = rw told;
@@ -32,7 +31,7 @@ returns c =
 
 returns-2 : tie.Need-returns-2
 returns-2 c =
-    let told = same-value (sym (c .before .before .before .before .before .read-values .ensures .year .says) ∙ ap saidReadAnswer (c .before .before .answer2 .given .1)) in
+    let told = sym (c .before .before .before .before .read-values .ensures .says) ∙ ap saidChecked (c .before .before .answer2 .given .1) in
     record {
       number = rw told (c .refusal-number .ensures);
       yearN = rw told;
@@ -44,8 +43,5 @@ returns-2 c =
       faultByte = rw told;
     }
 
-returns-3 : tie.Need-returns-3
-returns-3 c = absurd (never (sym (ap saidReadAnswer (c .before .before .answer3 .given .1)) ∙ c .before .before .before .before .before .read-values .ensures .year .says))
-
 pub bhromilun-read-year-spec : {M : Type 1} → statement M
-bhromilun-read-year-spec = tie.close (tie.spec (λ c κs. search needs) (λ c. search needs) (λ c κs. search needs) (λ c. search needs) (λ c κs. search needs) (λ c. search needs) (λ c κs. search needs) returns returns-2 returns-3)
+bhromilun-read-year-spec = tie.close (tie.spec (λ c κs. search needs) (λ c. search needs) (λ c κs. search needs) (λ c. search needs) (λ c κs. search needs) returns returns-2)

@@ -10,7 +10,7 @@ use borrow.Author.Needs.{needs, sfits-of}
 use mir.Facts.{toZ-ofZ}
 use Rattle.reasoning.proofs.ByHand.{more-stored}
 use Rattle.law.specs.Document.{TermValues}
-use Rattle.sun.specs.Records.{zeroRecord}
+use Rattle.sun.specs.Worked.{zeroRecord}
 use Rattle.sun.specs.Said.{valuesOfTerm}
 use Rattle.bhromilun.proofs.columns.store_columns.Statement.{statement}
 use Rattle.bhromilun.proofs.columns.store_columns.Tie as tie

@@ -9,7 +9,7 @@ use mir.Facts.{toZ-ofZ}
 use Rattle.law.specs.Document.{TermValues}
 use Rattle.reasoning.proofs.InOrder.{FilledTo, filled-none, filled-more, filled-all}
 use Rattle.sun.specs.Said.{valuesOfTerm}
-use Rattle.sun.specs.Records.{zeroRecord}
+use Rattle.sun.specs.Worked.{zeroRecord}
 use Rattle.bhromilun.specs.Columns.{termGiven}
 use Rattle.bhromilun.proofs.columns.terms_from.Statement.{statement}
 use Rattle.bhromilun.proofs.columns.terms_from.Tie as tie

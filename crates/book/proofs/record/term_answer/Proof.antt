@@ -18,29 +18,26 @@ returns c = c .other-kind .ensures ∙ other _ _ (no-term _ _ (c .before .if1 .t
 returns-2 : tie.Need-returns-2
 returns-2 c = let e = c .before .if1 .left in sym (refuse-7 _ _ (omega (arith, term-size _ e)) (omega (arith, term-size _ e)))
 
-shared-slice-read-wide : tie.Need-shared-slice-read-wide
-shared-slice-read-wide c = search needs
-
-wide-requires : tie.Need-wide-requires
-wide-requires c κs = search needs
+byte-at-requires : tie.Need-byte-at-requires
+byte-at-requires c κs = search needs
 
 returns-3 : tie.Need-returns-3
-returns-3 c = let e = c .before .before .before .before .if1 .left in sym (refuse-10 _ _ (omega (arith, term-size _ e)) (omega (arith, term-size _ e)) (not-due _ _ e (λ i. c .if3 .taken (omega arith))))
+returns-3 c = let e = c .before .before .before .if1 .left in sym (refuse-10 _ _ (omega (arith, term-size _ e)) (omega (arith, term-size _ e)) (not-due _ _ e (λ i. c .if3 .taken (omega arith))))
 
 two-at-requires : tie.Need-two-at-requires
 two-at-requires c κs = search needs
 
 returns-4 : tie.Need-returns-4
-returns-4 c = let e = c .before .before .before .before .before .before .if1 .left in sym (refuse-9 _ _ (omega (arith, term-size _ e)) (omega (arith, term-size _ e)) (term-turn _ _ e (omega arith)) (day-outside _ _ (omega arith)))
+returns-4 c = let e = c .before .before .before .before .before .if1 .left in sym (refuse-9 _ _ (omega (arith, term-size _ e)) (omega (arith, term-size _ e)) (term-turn _ _ e (omega arith)) (day-outside _ _ (omega arith)))
 
 two-at-requires-2 : tie.Need-two-at-requires-2
 two-at-requires-2 c κs = search needs
 
 returns-5 : tie.Need-returns-5
-returns-5 c = let e = c .before .before .before .before .before .before .before .before .if1 .left in sym (refuse-9 _ _ (omega (arith, term-size _ e)) (omega (arith, term-size _ e)) (term-turn _ _ e (omega arith)) (minute-outside _ _ (omega arith) (omega arith)))
+returns-5 c = let e = c .before .before .before .before .before .before .before .if1 .left in sym (refuse-9 _ _ (omega (arith, term-size _ e)) (omega (arith, term-size _ e)) (term-turn _ _ e (omega arith)) (minute-outside _ _ (omega arith) (omega arith)))
 
 returns-6 : tie.Need-returns-6
-returns-6 c = let e = c .before .before .before .before .before .before .before .before .if1 .left in sym (accept _ _ (omega (arith, term-size _ e)) (omega (arith, term-size _ e)) (term-turn _ _ e (omega arith)) (term-range _ _ (omega arith) (omega arith)))
+returns-6 c = let e = c .before .before .before .before .before .before .before .if1 .left in sym (accept _ _ (omega (arith, term-size _ e)) (omega (arith, term-size _ e)) (term-turn _ _ e (omega arith)) (term-range _ _ (omega arith) (omega arith)))
 
 pub term-answer-spec : {M : Type 1} → statement M
 term-answer-spec =
@@ -50,8 +47,7 @@ term-answer-spec =
     other-kind-requires
     returns
     returns-2
-    shared-slice-read-wide
-    wide-requires
+    byte-at-requires
     returns-3
     two-at-requires
     returns-4

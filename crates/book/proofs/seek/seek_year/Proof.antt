@@ -7,7 +7,7 @@ use Rattle.reasoning.proofs.Indexed.{Indexed}
 use Rattle.units.specs.IndexAnswers.{yearIndexAnswer}
 use Rattle.units.specs.Said.{saidNumber}
 use Rattle.units.proofs.IndexAnswers.{year-in, year-out}
-use Rattle.book.proofs.Counts.{counted}
+use Rattle.units.proofs.Counts.{counted}
 use Rattle.book.proofs.seek.SeekSteps.{toSeek, seek-outside, seek-inside}
 use Rattle.book.proofs.seek.seek_year.Statement.{statement}
 use Rattle.book.proofs.seek.seek_year.Tie as tie

@@ -10,15 +10,15 @@ use Rattle.reasoning.proofs.Answers.{same-value, never}
 use Rattle.reasoning.proofs.InOrder.{FilledTo, filled-none, filled-more, filled-all}
 use Rattle.motion.specs.Working.{termOf}
 use Rattle.sun.specs.Said.{valuesOfTerm, saidTerm}
-use Rattle.sun.specs.Records.{zeroRecord}
+use Rattle.sun.specs.Worked.{zeroRecord}
 use Rattle.sun.proofs.worked_year.worked_in.Statement.{statement}
 use Rattle.sun.proofs.worked_year.worked_in.Tie as tie
 
 abbrev Inv-loop : tie.InvT-loop
-Inv-loop y year sines tangents root at₀ k₀ at k = (k ≤ 24) × (length at ≡ 24) × FilledTo valuesOfTerm (termOf epicycles y) zeroRecord at k
+Inv-loop y year sines tangents root terms₀ k₀ terms k = (k ≤ 24) × (length terms ≡ 24) × FilledTo valuesOfTerm (termOf epicycles y) zeroRecord terms k
 
 abbrev μ-loop : tie.MeasureT-loop
-μ-loop y year sines tangents root at₀ k₀ at k = 24 - k
+μ-loop y year sines tangents root terms₀ k₀ terms k = 24 - k
 
 sine-table-requires : tie.Need-sine-table-requires Inv-loop μ-loop
 sine-table-requires c κs = search needs
@@ -37,11 +37,11 @@ term-in-requires c κs =
 enum-known-term : tie.Need-enum-known-term Inv-loop μ-loop
 enum-known-term c = search needs
 
-mul-at : tie.Need-mul-at Inv-loop μ-loop
-mul-at c = search needs
+mul-terms : tie.Need-mul-terms Inv-loop μ-loop
+mul-terms c = search needs
 
-array-set-from-at : tie.Need-array-set-from-at Inv-loop μ-loop
-array-set-from-at c = search needs
+array-set-from-terms : tie.Need-array-set-from-terms Inv-loop μ-loop
+array-set-from-terms c = search needs
 
 enum-known-refusal : tie.Need-enum-known-refusal Inv-loop μ-loop
 enum-known-refusal c = search needs
@@ -68,8 +68,8 @@ loop-again c =
     let l = c .before .before .before .before .before .before .before .loop in
     let term = c .before .term .given .0 .0 in (
       omega arith,
-      length-set (l .at) (l .k) term ∙ l .inv .1,
-      filled-more valuesOfTerm (termOf epicycles y) zeroRecord (l .at) (l .k) term (l .inv .2) (omega (arith, l .inv .1))
+      length-set (l .terms) (l .k) term ∙ l .inv .1,
+      filled-more valuesOfTerm (termOf epicycles y) zeroRecord (l .terms) (l .k) term (l .inv .2) (omega (arith, l .inv .1))
           (same-value (subst (λ r. saidTerm r ≡ value (termOf epicycles y (l .k))) (c .before .term .given .1) (c .before .before .before .term-in .ensures))),
     )
 
@@ -80,8 +80,7 @@ returns-2 c =
     let e : l .k ≡ 24 = omega arith in
     record {
       all = refl;
-      count = refl;
-      terms = filled-all valuesOfTerm (termOf epicycles y) zeroRecord (l .at) 24 (l .inv .1) (subst (FilledTo valuesOfTerm (termOf epicycles y) zeroRecord (l .at)) e (l .inv .2));
+      terms = filled-all valuesOfTerm (termOf epicycles y) zeroRecord (l .terms) 24 (l .inv .1) (subst (FilledTo valuesOfTerm (termOf epicycles y) zeroRecord (l .terms)) e (l .inv .2));
       same = refl;
     }
 
@@ -96,8 +95,8 @@ worked-in-spec =
     loop-holds
     term-in-requires
     enum-known-term
-    mul-at
-    array-set-from-at
+    mul-terms
+    array-set-from-terms
     enum-known-refusal
     refused-year-requires
     returns

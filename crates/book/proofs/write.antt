@@ -1,3 +1,0 @@
--- What the proofs of this module's functions share.
-pub mod BufferFilled
-pub mod MeantRecords

@@ -1,0 +1,4 @@
+pub mod ListFilled
+pub mod LentList
+pub mod HeldFast
+pub mod CallsCompose

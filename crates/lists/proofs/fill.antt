@@ -1,0 +1,2 @@
+-- What the proofs of this module's functions share.
+pub mod FillAnswers

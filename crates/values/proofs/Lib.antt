@@ -1,0 +1,9 @@
+pub mod ReadValues
+pub mod WriteAnswers
+pub mod WorkedFits
+pub mod WrittenIsRead
+pub mod ReadIsWritten
+pub mod RisingYears
+pub mod BookAgain
+pub mod ReturnTrips
+pub mod HeldFast
