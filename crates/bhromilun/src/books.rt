@@ -1,15 +1,27 @@
 // The term book.
 use crate::columns::store_columns;
 use crate::columns::terms_from;
-use crate::tell::tell_check;
-use crate::tell::tell_sought;
-use crate::tell::tell_written;
 use book::BookAnswer;
+use book::Sought;
 use values::Head;
+use values::Written;
+ghost use mathlib.Core.Path.{_≡_};
+ghost use Rattle.reasoning.specs.Answer.{refusalIn};
 ghost use Rattle.law.specs.Document.{epicycles};
 ghost use Rattle.law.specs.Book.{writeAnswer, workedAnswer, bookOf, seekOf};
+ghost use Rattle.values.specs.Said.{saidWritten};
 ghost use Rattle.bhromilun.specs.Told.{Told, lent};
 ghost use Rattle.bhromilun.specs.Books.{ToldCheck, ToldSought, ToldRead, yearGiven};
+
+// The writer has filled the buffer itself.
+fn tell_written(answer: Written) -> u64
+    ensures { λ r. ⌜ r ≡ refusalIn (saidWritten answer) ⌝ }
+{
+    match answer {
+        Written::Done => 0,
+        Written::Refused(refusal) => units::refusal_number(refusal),
+    }
+}
 
 // Fills the first 149 bytes of a buffer with a year; the later ones stay.
 #[no_mangle]
@@ -24,7 +36,16 @@ pub extern "C" fn bhromilun_write_year(n: i64, buffer: &mut [u8]) -> u64
 pub extern "C" fn bhromilun_check_book(bytes: &[u8], byte: &mut usize) -> u64
     ensures { λ r. ⌜ ToldCheck (bookOf (now (bytes .entry))) r (lent byte) ⌝ }
 {
-    tell_check(book::check_book(bytes), byte)
+    match book::check_book(bytes) {
+        BookAnswer::Sound(end) => {
+            *byte = end;
+            0
+        }
+        BookAnswer::Refused(refusal, at) => {
+            *byte = at;
+            units::refusal_number(refusal)
+        }
+    }
 }
 
 // Seeks a year. Where it is found its part starts and ends at these bytes; a book at fault is so at `byte`.
@@ -38,7 +59,18 @@ pub extern "C" fn bhromilun_seek_year(
 ) -> u64
     ensures { λ r. ⌜ ToldSought (seekOf (now (bytes .entry)) n) r (lent start) (lent end) (lent byte) ⌝ }
 {
-    tell_sought(book::seek_year(bytes, n), start, end, byte)
+    match book::seek_year(bytes, n) {
+        Sought::Found(first, after) => {
+            *start = first;
+            *end = after;
+            0
+        }
+        Sought::Unsound(refusal, at) => {
+            *byte = at;
+            units::refusal_number(refusal)
+        }
+        Sought::Refused(refusal) => units::refusal_number(refusal),
+    }
 }
 
 // Reads the year at the start of the bytes; what follows it is not looked at. A sound year is stored, and the byte after it in `end`;

@@ -3,4 +3,3 @@
 mod books;
 mod columns;
 mod reckoning;
-mod tell;

@@ -1,12 +1,14 @@
 // The year, places, terms and local time.
-use crate::tell::tell_local;
-use crate::tell::tell_number;
-use crate::tell::tell_signed;
-use crate::tell::tell_term;
-use crate::tell::tell_terms;
-use crate::tell::tell_year;
+use crate::columns::store_columns;
+use local::LocalAnswer;
+use sun::Listed;
+use sun::TermAnswer;
+use sun::YearAnswer;
 use units::ArcSeconds;
+use units::Number;
+use units::Signed;
 ghost use Rattle.law.specs.Document.{epicycles, yearAnswer, equationAnswer, meanAnswer, trueAnswer, termAnswer, termsAnswer, localAnswer};
+ghost use Rattle.units.specs.Said.{saidNumber};
 ghost use Rattle.bhromilun.specs.Told.{Told, lent};
 ghost use Rattle.bhromilun.specs.Reckoning.{ToldYear, ToldTerm, ToldTerms, ToldLocal};
 
@@ -20,7 +22,15 @@ pub extern "C" fn bhromilun_year(
 ) -> u64
     ensures { λ r. ⌜ ToldYear (yearAnswer n) r (lent «day_name») (lent fraction) (lent mansion) ⌝ }
 {
-    tell_year(sun::year_of(n), day_name, fraction, mansion)
+    match sun::year_of(n) {
+        YearAnswer::Is(year) => {
+            *day_name = year.day_name;
+            *fraction = year.fraction;
+            *mansion = year.mansion;
+            0
+        }
+        YearAnswer::Refused(refusal) => units::refusal_number(refusal),
+    }
 }
 
 // The equation of centre at an anomaly, in units.
@@ -28,7 +38,26 @@ pub extern "C" fn bhromilun_year(
 pub extern "C" fn bhromilun_equation(anomaly: i64, equation: &mut i64) -> u64
     ensures { λ r. ⌜ Told (equationAnswer epicycles anomaly) r (lent equation) ⌝ }
 {
-    tell_signed(sun::equation_at(anomaly), equation)
+    match sun::equation_at(anomaly) {
+        Signed::Is(units) => {
+            *equation = units;
+            0
+        }
+        Signed::Refused(refusal) => units::refusal_number(refusal),
+    }
+}
+
+// A place, or the refusal's number and nothing stored.
+fn tell_place(answer: Number, place: &mut u64) -> u64
+    ensures { λ r. ⌜ Told (saidNumber answer) r (lent place) ⌝ }
+{
+    match answer {
+        Number::Is(units) => {
+            *place = units;
+            0
+        }
+        Number::Refused(refusal) => units::refusal_number(refusal),
+    }
 }
 
 // The mean place at a day's midnight, in units, in the circle.
@@ -36,7 +65,7 @@ pub extern "C" fn bhromilun_equation(anomaly: i64, equation: &mut i64) -> u64
 pub extern "C" fn bhromilun_mean_place(n: i64, day: i64, place: &mut u64) -> u64
     ensures { λ r. ⌜ Told (meanAnswer n day) r (lent place) ⌝ }
 {
-    tell_number(sun::mean_place(n, day), place)
+    tell_place(sun::mean_place(n, day), place)
 }
 
 // The true place at a day's midnight, in units, in the circle.
@@ -44,7 +73,7 @@ pub extern "C" fn bhromilun_mean_place(n: i64, day: i64, place: &mut u64) -> u64
 pub extern "C" fn bhromilun_true_place(n: i64, day: i64, place: &mut u64) -> u64
     ensures { λ r. ⌜ Told (trueAnswer epicycles n day) r (lent place) ⌝ }
 {
-    tell_number(sun::true_place(n, day), place)
+    tell_place(sun::true_place(n, day), place)
 }
 
 // The day and minute of a year's term k, and the midnights visited to find them.
@@ -58,7 +87,16 @@ pub extern "C" fn bhromilun_term(
 ) -> u64
     ensures { λ r. ⌜ ToldTerm (termAnswer epicycles n k) r (lent day) (lent minute) (lent count) ⌝ }
 {
-    tell_term(sun::term_of(n, k), day, minute, count)
+    match sun::term_of(n, k) {
+        TermAnswer::Is(term) => {
+            let found = term.day;
+            *day = found;
+            *minute = term.minute;
+            *count = term.count;
+            0
+        }
+        TermAnswer::Refused(refusal) => units::refusal_number(refusal),
+    }
 }
 
 // The year call: the day and minute of each of a year's 24 terms, and the midnights visited to find them.
@@ -71,7 +109,16 @@ pub extern "C" fn bhromilun_terms(
 ) -> u64
     ensures { λ r. ⌜ ToldTerms (termsAnswer epicycles n) r (lent days) (lent minutes) (lent counts) ⌝ }
 {
-    tell_terms(sun::work_year(n), days, minutes, counts)
+    let worked = sun::work_year(n);
+    let answer = worked.answer;
+    match answer {
+        Listed::All => {
+            let terms = worked.terms;
+            store_columns(terms, days, minutes, counts);
+            0
+        }
+        Listed::Refused(refusal) => units::refusal_number(refusal),
+    }
 }
 
 // Day and minute at a place, by its longitude from the capital in seconds of arc, east positive.
@@ -85,6 +132,13 @@ pub extern "C" fn bhromilun_local_time(
 ) -> u64
     ensures { λ r. ⌜ ToldLocal (localAnswer day minute longitude) r (lent «day_there») (lent «minute_there») ⌝ }
 {
-    let answer = local::local_time(day, minute, ArcSeconds::of(longitude));
-    tell_local(answer, day_there, minute_there)
+    match local::local_time(day, minute, ArcSeconds::of(longitude)) {
+        LocalAnswer::Is(time) => {
+            let reached = time.day;
+            *day_there = reached;
+            *minute_there = time.minute;
+            0
+        }
+        LocalAnswer::Refused(refusal) => units::refusal_number(refusal),
+    }
 }

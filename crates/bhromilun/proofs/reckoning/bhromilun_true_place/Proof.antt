@@ -8,7 +8,7 @@ returns : tie.Need-returns
 returns c =
     let call = c .before .before in
     let s = call .before in
-    rw (call .true-place .ensures, toZ-ofZ (s .fits .n), toZ-ofZ (s .fits .day)) at (c .tell-number .ensures)
+    rw (call .true-place .ensures, toZ-ofZ (s .fits .n), toZ-ofZ (s .fits .day)) at (c .tell-place .ensures)
 
 pub bhromilun-true-place-spec : {M : Type 1} → statement M
 bhromilun-true-place-spec = tie.close (tie.spec (λ c κs. search needs) (λ c κs. search needs) returns)
