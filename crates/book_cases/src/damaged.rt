@@ -1,8 +1,8 @@
 // Of each damaged book: what checking it, seeking the year 0 in it, reading its first year and a reader's calls answer.
 use crate::bytes::byte_at;
 use crate::bytes::two_at;
-use crate::readers;
 use crate::read::read_year;
+use crate::readers;
 use crate::refusals::refused_at;
 use book::BookAnswer;
 use book::Sought;
