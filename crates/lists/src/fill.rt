@@ -4,7 +4,6 @@ use crate::records::store_records;
 use sun::Listed;
 use sun::TermRecord;
 use sun::ZERO_RECORD;
-ghost use mathlib.Core.Path.{_≡_};
 ghost use lib.ListN.{length};
 ghost use Rattle.law.specs.Document.{epicycles, fillAnswer};
 ghost use Rattle.lists.specs.Fill.{Filled, Fills};

@@ -6,7 +6,6 @@ use sun::TermRecord;
 use sun::ZERO_RECORD;
 use units::Refusal;
 use values::Head;
-ghost use mathlib.Core.Path.{_≡_};
 ghost use Rattle.law.specs.Book.{readAnswer};
 ghost use Rattle.lists.specs.Read.{Taken, ListRead};
 

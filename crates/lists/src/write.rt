@@ -4,7 +4,6 @@ use crate::records::first_records;
 use sun::TermRecord;
 use values::Head;
 use values::Written;
-ghost use mathlib.Core.Path.{_≡_};
 ghost use lib.ListN.{take};
 ghost use Rattle.law.specs.Book.{writeAnswer};
 ghost use Rattle.values.specs.Said.{givenYear};

@@ -3,7 +3,7 @@ use mathlib.Core.Path.{_≡_, refl}
 use mathlib.Core.Bool.{true, false}
 use mathlib.Core.List.{[], _∷_}
 use Prim.Native.Nat.{ℕ, suc, _+_}
-use Rattle.reasoning.specs.Answer.{Answer, value, refused, refusing, done, afterwards, refusalIn, part}
+use Rattle.reasoning.specs.Answer.{value, refused, refusing, done, afterwards, refusalIn, part}
 use Rattle.reasoning.specs.InOrder.{inOrder}
 
 pub record AnswerFacts : Type 0 where

@@ -1,9 +1,8 @@
 -- Each public function's promise holds its answer fast. Assumes nothing.
 use mathlib.Core.Path.{_≡_, refl, ap, ap₂, _∙_}
-use Prim.Native.Nat.{ℕ}
 use lib.IntN.{ℤ}
 use mathlib.Core.List.{List, [], _∷_, map}
-use Rattle.reasoning.proofs.HeldFast.{Held, by-facts, one, one-said}
+use Rattle.reasoning.proofs.HeldFast.{Held, by-facts, one-said}
 use Rattle.reasoning.specs.Answer.{Answer, value, refused}
 use Rattle.law.specs.Document.{YearValues, TermValues}
 use Rattle.units.specs.Said.{saidNumber, saidSigned}

@@ -1,25 +1,22 @@
 -- What is answered for a list of so many records, by what the year by value said. Assumes nothing.
-use mathlib.Core.List.{List, map}
+use mathlib.Core.List.{List}
 use mathlib.Core.Path.{_≡_, refl, sym}
 use Prim.Native.Nat.{ℕ, _≤_, _<_}
 use native.Mathlib.Omega.{arith}
 use lib.ListN.{drop}
 use Rattle.reasoning.specs.Answer.{value}
-use Rattle.law.specs.Book.{Checked, sound, faulty, yearFrom, headSize, valuesIn, readAnswer, termsRead}
+use Rattle.law.specs.Book.{sound, faulty, yearFrom, headSize, valuesIn, readAnswer, termsRead}
 use Rattle.units.specs.declared.refusal.Refusal.{Refusal}
 use Rattle.units.specs.declared.refusal.Refusal.the-variants.{TooShort}
 use Rattle.units.specs.Said.{numberOf}
 use Rattle.sun.specs.declared.term.TermRecord.{TermRecord}
-use Rattle.values.specs.declared.head.Head.{Head}
 use Rattle.values.specs.Said.{noHead}
 use Rattle.values.specs.Told.{ValuesRead}
 use Rattle.values.specs.declared.read.ReadValues.{ReadValues}
 use Rattle.values.proofs.ReadValues.{terms-many, read-6, read-as}
-use Rattle.book.specs.declared.year.BookAnswer.the-variants as book-answer
 use Rattle.lists.specs.declared.read.ReadAnswer.the-variants as read-answer
-use Rattle.lists.specs.declared.read.ReadYear.{ReadYear}
 use Rattle.lists.specs.Read.{Taken}
-use Rattle.lists.proofs.ListFilled.{Full, kept-all}
+use Rattle.lists.proofs.ListFilled.{kept-all}
 
 module _ (b : List ℕ) (room : ℕ) where
   pub taken-6 : (l : List TermRecord) → room < 24

@@ -1,7 +1,7 @@
 -- A walk of the code by hand. The work is had by value, and the list is passed on for good to be stored in. Assumes nothing.
 use mathlib.Core.List.{[], _∷_, List, map}
 use mathlib.Core.Path.{_≡_, refl, sym, ap, subst, _∙_}
-use Prim.Native.Nat.{ℕ, _≤_}
+use Prim.Native.Nat.{ℕ}
 use lib.Dec.{T as Holds}
 use lib.IntN.{ℤ}
 use lib.ListN.{length}
