@@ -63,7 +63,7 @@ fn main() {
         20,
         |_| {
             let mut byte = 0;
-            plain::check_book(hidden(&book[..]), &mut byte) + byte as u64
+            plain::check_book(hidden(&book[..]), &mut byte) + byte
         },
         |_| {
             let bytes = hidden(&book[..]);
