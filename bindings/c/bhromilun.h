@@ -1,4 +1,4 @@
-/* The calls of libbhromilun.a, which `rt staticlib bhromilun` writes (x86-64 Linux, System V).
+/* The calls of libbhromilun.a, which `bash bindings/build` writes for each target that it knows.
 
    Each call answers 0, or the number of its refusal. Below, "stores" says of every pointer on which
    answers its place is stored; on every other answer that place stays as it was. An array or a buffer
@@ -8,7 +8,8 @@
    - no pointer is null, that of a buffer of length 0 neither, and each is aligned for its type;
    - an array has 24 places, and a buffer as many bytes as its length says;
    - no place that a call may store overlaps another that it is given.
-   Numbers may have any value: one that is out of range is refused.
+   Numbers may have any value: one that is out of range is refused. Lengths and places in a book have 64
+   bits on every target, also where a pointer has 32.
 
    The library keeps nothing between calls, so that any number of threads may call it at once.
 
@@ -34,7 +35,6 @@
 #ifndef BHROMILUN_H
 #define BHROMILUN_H
 
-#include <stddef.h>
 #include <stdint.h>
 
 #ifdef __cplusplus
@@ -77,33 +77,33 @@ uint64_t bhromilun_local_time(int64_t day, uint64_t minute, int64_t longitude,
 /* Works out a year and fills the first 149 bytes of the buffer with its part of a term book.
    Refuses 1, 6.
    Stores: the buffer's first 149 bytes on 0, and never a later one. */
-uint64_t bhromilun_write_year(int64_t n, uint8_t *buffer, size_t length);
+uint64_t bhromilun_write_year(int64_t n, uint8_t *buffer, uint64_t length);
 
 /* Checks a whole book; an empty one is sound. Refuses 7, 8, 9, 10.
    Stores: byte on every answer; on 0 it is the book's length, on a refusal the byte at fault. */
-uint64_t bhromilun_check_book(const uint8_t *bytes, size_t length, size_t *byte);
+uint64_t bhromilun_check_book(const uint8_t *bytes, uint64_t length, uint64_t *byte);
 
 /* Seeks the year's part of a book: its bytes from start up to, and without, end. Refuses 1; then 7, 8,
    9, 10 for the whole book; then 12.
    Stores: start and end on 0; byte, the byte at fault, on 7, 8, 9 and 10; none on 1 and 12. */
-uint64_t bhromilun_seek_year(const uint8_t *bytes, size_t length, int64_t n,
-                             size_t *start, size_t *end, size_t *byte);
+uint64_t bhromilun_seek_year(const uint8_t *bytes, uint64_t length, int64_t n,
+                             uint64_t *start, uint64_t *end, uint64_t *byte);
 
 /* Reads the year at the start of the bytes: N, day name, mansion, day and minute of each of the 24
    terms, and in end the byte after the year, where a next one would start. What stands from there on is
    not looked at. Refuses 7, 8, 9, 10; no bytes at all are refused 10 at byte 0.
    That years rise in a book is the whole book's matter: bhromilun_check_book.
    Stores: all but byte on 0; byte, the byte at fault, and nothing else on a refusal. */
-uint64_t bhromilun_read_year(const uint8_t *bytes, size_t length,
+uint64_t bhromilun_read_year(const uint8_t *bytes, uint64_t length,
                              int64_t *n, uint64_t *day_name, uint64_t *mansion,
-                             int64_t days[24], uint64_t minutes[24], size_t *end, size_t *byte);
+                             int64_t days[24], uint64_t minutes[24], uint64_t *end, uint64_t *byte);
 
 /* Fills the first 149 bytes of the buffer with the year of these values, term 0 first. Refuses 1; then
    6; then 9 for a day name above 59, a mansion above 27, a day outside -4 to 370 or a minute above 1,439.
    Stores: the buffer's first 149 bytes on 0, and never a later one. */
 uint64_t bhromilun_write_year_from(int64_t n, uint64_t day_name, uint64_t mansion,
                                    const int64_t days[24], const uint64_t minutes[24],
-                                   uint8_t *buffer, size_t length);
+                                   uint8_t *buffer, uint64_t length);
 
 #ifdef __cplusplus
 }

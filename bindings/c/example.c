@@ -34,7 +34,7 @@ int main(void)
 
     uint8_t book[149];
     int64_t read;
-    size_t end, byte;
+    uint64_t end, byte;
     refused = bhromilun_write_year(n, book, sizeof book);
     if (refused != 0) {
         printf("refused %" PRIu64 "\n", refused);
@@ -43,15 +43,15 @@ int main(void)
     refused = bhromilun_read_year(book, sizeof book, &read, &day_name, &mansion, days, minutes,
                                   &end, &byte);
     if (refused != 0) {
-        printf("refused %" PRIu64 " at byte %zu\n", refused, byte);
+        printf("refused %" PRIu64 " at byte %" PRIu64 "\n", refused, byte);
         return 1;
     }
-    printf("book: year %" PRId64 ", term 23 on day %" PRId64 ", %zu bytes after it\n",
+    printf("book: year %" PRId64 ", term 23 on day %" PRId64 ", %" PRIu64 " bytes after it\n",
            read, days[23], sizeof book - end);
     book[7] = 2; /* term 0 on day 511 */
     refused = bhromilun_read_year(book, sizeof book, &read, &day_name, &mansion, days, minutes,
                                   &end, &byte);
-    printf("damaged book: refused %" PRIu64 " at byte %zu\n", refused, byte);
+    printf("damaged book: refused %" PRIu64 " at byte %" PRIu64 "\n", refused, byte);
 
     refused = bhromilun_year(2001, &day_name, &fraction, &mansion);
     printf("year 2001: refused %" PRIu64 "\n", refused);

@@ -17,9 +17,9 @@
 //! The calls are safe, keep nothing between them, and may be made from any number of threads.
 //! [`plain`] has them in their C shape, for a caller with arrays of its own.
 //!
-//! `rt staticlib bhromilun`, run at the project's root, writes the library to `target/staticlib`, where the
-//! build looks for it; the environment variable `BHROMILUN_LIB`, if set, is the whole path of another folder.
-//! It is for x86-64 Linux.
+//! `bash bindings/build`, at the project's root, writes the library for each target that it knows below
+//! `target/staticlib`, where the build looks for it; the environment variable `BHROMILUN_LIB`, if set, is the
+//! whole path of another folder.
 
 pub mod plain;
 
@@ -281,7 +281,7 @@ pub fn check_book(bytes: &[u8]) -> Result<(), Refusal> {
     let mut byte = 0;
     match plain::check_book(bytes, &mut byte) {
         0 => Ok(()),
-        number => Err(Refusal { number, byte: Some(byte) }),
+        number => Err(Refusal { number, byte: Some(byte as usize) }),
     }
 }
 
@@ -300,8 +300,8 @@ pub fn check_book(bytes: &[u8]) -> Result<(), Refusal> {
 pub fn seek_year(bytes: &[u8], n: i64) -> Result<&[u8], Refusal> {
     let (mut start, mut end, mut byte) = (0, 0, 0);
     match plain::seek_year(bytes, n, &mut start, &mut end, &mut byte) {
-        0 => Ok(&bytes[start..end]),
-        number @ 7..=10 => Err(Refusal { number, byte: Some(byte) }),
+        0 => Ok(&bytes[start as usize..end as usize]),
+        number @ 7..=10 => Err(Refusal { number, byte: Some(byte as usize) }),
         number => Err(Refusal { number, byte: None }),
     }
 }
@@ -333,12 +333,12 @@ pub fn read_year(bytes: &[u8]) -> Result<(Year, &[u8]), Refusal> {
     let number =
         plain::read_year(bytes, n, day_name, mansion, &mut days, &mut minutes, &mut end, &mut byte);
     if number != 0 {
-        return Err(Refusal { number, byte: Some(byte) });
+        return Err(Refusal { number, byte: Some(byte as usize) });
     }
     for (k, term) in year.terms.iter_mut().enumerate() {
         *term = Moment { day: days[k], minute: minutes[k] };
     }
-    Ok((year, &bytes[end..]))
+    Ok((year, &bytes[end as usize..]))
 }
 
 /// Fills the first 149 bytes with the year of these values, and hands them out. Later bytes stay, and on a

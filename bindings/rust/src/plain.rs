@@ -1,7 +1,7 @@
 //! The calls in their C shape, with references for pointers. Each answers 0 or the refusal's number, and
 //! stores the rest in what it is lent last: where this file does not say otherwise, all of it on 0 and
 //! nothing on a refusal. So a caller can keep its values in arrays of its own, and sees what a refusal
-//! leaves as it was.
+//! leaves as it was. A length or a place in a book is a number of 64 bits, also where pointers are shorter.
 
 // What C's caller must see to, the types do here: a reference is never null, is aligned, and leads to a whole
 // number or array; a slice has its length; and nothing lent by `&mut` overlaps anything else.
@@ -36,26 +36,26 @@ mod library {
             day_there: &mut i64,
             minute_there: &mut u64,
         ) -> u64;
-        pub fn bhromilun_write_year(n: i64, buffer: *mut u8, length: usize) -> u64;
-        pub fn bhromilun_check_book(bytes: *const u8, length: usize, byte: &mut usize) -> u64;
+        pub fn bhromilun_write_year(n: i64, buffer: *mut u8, length: u64) -> u64;
+        pub fn bhromilun_check_book(bytes: *const u8, length: u64, byte: &mut u64) -> u64;
         pub fn bhromilun_seek_year(
             bytes: *const u8,
-            length: usize,
+            length: u64,
             n: i64,
-            start: &mut usize,
-            end: &mut usize,
-            byte: &mut usize,
+            start: &mut u64,
+            end: &mut u64,
+            byte: &mut u64,
         ) -> u64;
         pub fn bhromilun_read_year(
             bytes: *const u8,
-            length: usize,
+            length: u64,
             n: &mut i64,
             day_name: &mut u64,
             mansion: &mut u64,
             days: &mut [i64; 24],
             minutes: &mut [u64; 24],
-            end: &mut usize,
-            byte: &mut usize,
+            end: &mut u64,
+            byte: &mut u64,
         ) -> u64;
         pub fn bhromilun_write_year_from(
             n: i64,
@@ -64,7 +64,7 @@ mod library {
             days: &[i64; 24],
             minutes: &[u64; 24],
             buffer: *mut u8,
-            length: usize,
+            length: u64,
         ) -> u64;
     }
 }
@@ -112,25 +112,20 @@ pub fn local_time(
 
 /// See [`write_year`](crate::write_year). On 0 the first 149 bytes are stored; later ones never.
 pub fn write_year(n: i64, buffer: &mut [u8]) -> u64 {
-    unsafe { library::bhromilun_write_year(n, buffer.as_mut_ptr(), buffer.len()) }
+    unsafe { library::bhromilun_write_year(n, buffer.as_mut_ptr(), buffer.len() as u64) }
 }
 
 /// See [`check_book`](crate::check_book). `byte` is stored on every answer: on 0 it is the book's length,
 /// on a refusal the byte at fault.
-pub fn check_book(bytes: &[u8], byte: &mut usize) -> u64 {
-    unsafe { library::bhromilun_check_book(bytes.as_ptr(), bytes.len(), byte) }
+pub fn check_book(bytes: &[u8], byte: &mut u64) -> u64 {
+    unsafe { library::bhromilun_check_book(bytes.as_ptr(), bytes.len() as u64, byte) }
 }
 
 /// See [`seek_year`](crate::seek_year). `start` and `end` are stored on 0, `byte` on 7, 8, 9 and 10, and
 /// none on 1 and 12.
-pub fn seek_year(
-    bytes: &[u8],
-    n: i64,
-    start: &mut usize,
-    end: &mut usize,
-    byte: &mut usize,
-) -> u64 {
-    unsafe { library::bhromilun_seek_year(bytes.as_ptr(), bytes.len(), n, start, end, byte) }
+pub fn seek_year(bytes: &[u8], n: i64, start: &mut u64, end: &mut u64, byte: &mut u64) -> u64 {
+    let length = bytes.len() as u64;
+    unsafe { library::bhromilun_seek_year(bytes.as_ptr(), length, n, start, end, byte) }
 }
 
 /// See [`read_year`](crate::read_year). On 0 all but `byte` is stored, `end` being the byte after the
@@ -143,10 +138,10 @@ pub fn read_year(
     mansion: &mut u64,
     days: &mut [i64; 24],
     minutes: &mut [u64; 24],
-    end: &mut usize,
-    byte: &mut usize,
+    end: &mut u64,
+    byte: &mut u64,
 ) -> u64 {
-    let (start, length) = (bytes.as_ptr(), bytes.len());
+    let (start, length) = (bytes.as_ptr(), bytes.len() as u64);
     unsafe {
         library::bhromilun_read_year(start, length, n, day_name, mansion, days, minutes, end, byte)
     }
@@ -161,7 +156,7 @@ pub fn write_year_from(
     minutes: &[u64; 24],
     buffer: &mut [u8],
 ) -> u64 {
-    let (start, length) = (buffer.as_mut_ptr(), buffer.len());
+    let (start, length) = (buffer.as_mut_ptr(), buffer.len() as u64);
     unsafe {
         library::bhromilun_write_year_from(n, day_name, mansion, days, minutes, start, length)
     }

@@ -1,5 +1,5 @@
 //! The library's time beside that of `fast`, as a Markdown table: nanoseconds a call and the ratio.
-//! Both get the same inputs and the same buffers, in one run, in turn; the least of five repetitions
+//! Both get the same inputs and the same buffers, in one run, in turn; the least of fifty repetitions
 //! counts. Each gives a sum of its answers, and the two sums must be equal.
 
 use bhromilun::plain;
@@ -7,7 +7,7 @@ use outside::reckoning::book::YEAR_BYTES;
 use outside::{fast, Term};
 use std::time::Instant;
 
-const REPETITIONS: usize = 5;
+const REPETITIONS: usize = 50;
 const YEARS: usize = 4_001;
 
 /// Hides a value from the compiler, so that work on it is neither foreseen nor done only once.
@@ -63,7 +63,7 @@ fn main() {
         20,
         |_| {
             let mut byte = 0;
-            plain::check_book(hidden(&book[..]), &mut byte) + byte as u64
+            plain::check_book(hidden(&book[..]), &mut byte) + byte
         },
         |_| {
             let bytes = hidden(&book[..]);

@@ -1,7 +1,7 @@
 //! The calls of the book: years written, whole, cut and damaged books checked and sought in.
 
 use crate::odd::{years_outside, Sequence, YEARS};
-use crate::{Buffer, Tally, BEFORE_SIZE};
+use crate::{byte_stored, Buffer, Tally, BEFORE};
 use bhromilun::plain;
 use outside::reckoning::book::{self, YEAR_BYTES};
 
@@ -39,24 +39,22 @@ pub fn written_years(tally: &mut Tally) -> Vec<u8> {
 
 fn check(tally: &mut Tally, bytes: &[u8], name: impl Fn() -> String) {
     let kept = bytes.to_vec();
-    let mut byte = BEFORE_SIZE;
+    let mut byte = BEFORE;
     let number = plain::check_book(bytes, &mut byte);
     let ours = match book::check_book(&kept) {
-        Ok(()) => (0, kept.len(), true),
-        Err(refusal) => (refusal.number, refusal.byte.unwrap_or(BEFORE_SIZE), true),
+        Ok(()) => (0, kept.len() as u64, true),
+        Err(refusal) => (refusal.number, byte_stored(refusal), true),
     };
     tally.case(|| format!("checking {}", name()), (number, byte, bytes == kept), ours);
 }
 
 fn seek(tally: &mut Tally, bytes: &[u8], n: i64, name: impl Fn() -> String) {
     let kept = bytes.to_vec();
-    let (mut start, mut end, mut byte) = (BEFORE_SIZE, BEFORE_SIZE, BEFORE_SIZE);
+    let (mut start, mut end, mut byte) = (BEFORE, BEFORE, BEFORE);
     let number = plain::seek_year(bytes, n, &mut start, &mut end, &mut byte);
     let ours = match book::seek_start(&kept, n) {
-        Ok(start) => (0, start, start + YEAR_BYTES, BEFORE_SIZE, true),
-        Err(refusal) => {
-            (refusal.number, BEFORE_SIZE, BEFORE_SIZE, refusal.byte.unwrap_or(BEFORE_SIZE), true)
-        }
+        Ok(start) => (0, start as u64, (start + YEAR_BYTES) as u64, BEFORE, true),
+        Err(refusal) => (refusal.number, BEFORE, BEFORE, byte_stored(refusal), true),
     };
     let name = || format!("seeking {n} in {}", name());
     tally.case(name, (number, start, end, byte, bytes == kept), ours);

@@ -7,12 +7,12 @@ mod reckoned;
 mod results;
 mod values;
 
+use outside::Refusal;
 use std::fmt::Debug;
 
 /// What everything that is lent holds before a call.
 const BEFORE: u64 = 0x5a5a_5a5a_5a5a_5a5a;
 const BEFORE_SIGNED: i64 = BEFORE as i64;
-const BEFORE_SIZE: usize = BEFORE as usize;
 const BEFORE_BYTE: u8 = 0x5a;
 
 fn main() {
@@ -61,6 +61,11 @@ impl Tally {
         println!("{name}: {} cases", self.cases - self.cases_before);
         self.cases_before = self.cases;
     }
+}
+
+/// What the place for the byte at fault holds after a refusal.
+fn byte_stored(refusal: Refusal) -> u64 {
+    refusal.byte.map_or(BEFORE, |byte| byte as u64)
 }
 
 /// An array of 24 that is lent, between two numbers that are not.

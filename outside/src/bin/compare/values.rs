@@ -4,7 +4,7 @@
 use crate::books::{damage_bytes, damage_records, odd_values, put_together, records};
 use crate::odd::{above, days_outside, years_outside, Sequence, YEARS};
 use crate::{
-    Buffer, Column, Tally, BEFORE, BEFORE_SIGNED, BEFORE_SIZE, COLUMN_BEFORE, DAYS_BEFORE,
+    byte_stored, Buffer, Column, Tally, BEFORE, BEFORE_SIGNED, COLUMN_BEFORE, DAYS_BEFORE,
 };
 use bhromilun::plain;
 use outside::reckoning::book::{self, YEAR_BYTES};
@@ -18,8 +18,8 @@ struct Lent {
     mansion: u64,
     days: Column<i64>,
     minutes: Column<u64>,
-    end: usize,
-    byte: usize,
+    end: u64,
+    byte: u64,
 }
 
 const UNREAD: Lent = Lent {
@@ -28,8 +28,8 @@ const UNREAD: Lent = Lent {
     mansion: BEFORE,
     days: DAYS_BEFORE,
     minutes: COLUMN_BEFORE,
-    end: BEFORE_SIZE,
-    byte: BEFORE_SIZE,
+    end: BEFORE,
+    byte: BEFORE,
 };
 
 impl Lent {
@@ -37,7 +37,7 @@ impl Lent {
         let Year { n, day_name, mansion, terms } = *year;
         let days = Column::of(BEFORE_SIGNED, terms.map(|term| term.day));
         let minutes = Column::of(BEFORE, terms.map(|term| term.minute));
-        Lent { n, day_name, mansion, days, minutes, end, ..UNREAD }
+        Lent { n, day_name, mansion, days, minutes, end: end as u64, ..UNREAD }
     }
 
     fn year(&self) -> Year {
@@ -80,17 +80,15 @@ fn read(tally: &mut Tally, bytes: &[u8], name: impl Fn() -> String) {
     let (number, lent) = library_reads(bytes);
     let ours = match book::read_year(&kept) {
         Ok((year, end)) => (0, Lent::holding(&year, end), true),
-        Err(refusal) => {
-            let byte = refusal.byte.unwrap_or(BEFORE_SIZE);
-            (refusal.number, Lent { byte, ..UNREAD }, true)
-        }
+        Err(refusal) => (refusal.number, Lent { byte: byte_stored(refusal), ..UNREAD }, true),
     };
     tally.case(|| format!("reading {}", name()), (number, lent, bytes == kept), ours);
     if number == 0 {
-        let mut again = Buffer::of(lent.end);
-        again.lent().copy_from_slice(&kept[..lent.end]);
+        let end = lent.end as usize;
+        let mut again = Buffer::of(end);
+        again.lent().copy_from_slice(&kept[..end]);
         let name = || format!("writing again {}", name());
-        tally.case(name, library_writes(&lent.year(), lent.end), (0, again, true));
+        tally.case(name, library_writes(&lent.year(), end), (0, again, true));
     }
 }
 
