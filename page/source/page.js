@@ -130,6 +130,12 @@ function showBookYear(ours, placeName) {
     return differs;
 }
 
+// A number that the control shows already is not said again.
+function namedYear(n) {
+    const words = yearWords(EPOCH + n);
+    return `${/ /.test(words) ? `${words} · ` : ''}${stemAndBranch(n)} · N = ${grouped(n)}`;
+}
+
 function show() {
     element('longitude').hidden = element('place').selectedIndex < PLACES.length;
     const { year, words } = askedAnswer();
@@ -137,7 +143,7 @@ function show() {
     element('said').textContent = words || '';
     element('ours').hidden = !year;
     element('terms').hidden = !year;
-    element('year-words').textContent = year ? `${stemAndBranch(year.n)} · N = ${grouped(year.n)}` : '';
+    element('year-words').textContent = year ? namedYear(year.n) : '';
     element('slider').setAttribute('aria-valuetext', year ? yearWords(EPOCH + year.n) : '');
     const differs = showBookYear(year, placeName);
     if (year) {
@@ -259,6 +265,9 @@ function listen() {
     });
     // A file may fall anywhere on the page: beside the field the browser would leave the page and show it.
     ['dragenter', 'dragover', 'dragleave', 'drop'].forEach((kind) => window.addEventListener(kind, (event) => {
+        if (!event.dataTransfer.types.includes('Files')) {
+            return;
+        }
         event.preventDefault();
         element('drop').classList.toggle('over', kind === 'dragenter' || kind === 'dragover');
         if (kind === 'drop' && event.dataTransfer.files.length) {

@@ -21,7 +21,7 @@ YEARS = range(-2000, 2001)
 WALL_YEARS = [-2000, -1684, -1683, 0, 321, 2000]
 MOST_BYTES, MOST_YEAR_MS, MOST_BOOK_MS = 100_000, 50, 200
 
-ENTER, SPACE, TAB, LEFT, UP, RIGHT, DOWN = "\ue007", " ", "\ue004", "\ue012", "\ue013", "\ue014", "\ue015"
+ENTER, SPACE, TAB, LEFT, UP, DOWN = "\ue007", " ", "\ue004", "\ue012", "\ue013", "\ue015"
 
 # What the scripts in the page share: a control is set as by hand, and what is shown is read.
 SCRIPTS = """
@@ -338,7 +338,8 @@ def check_link(browser):
     run(browser, "element('place').selectedIndex = 3; set('slider', 0)")
     browser.wait_for("return location.hash.includes('=0')")
     equal("the link of a place", run(browser, "return location.hash"), "#year=0&place=fujian")
-    equal("a year before the year 1", run(browser, "return element('caption').textContent"), f"The terms of the year {year_said(-1684)}, by the time of 福建")
+    captions = [f"The terms of the year {year_said(-1684)}, by the time of 福建", f"{year_said(-1684)} · {sixty(-1684)} · N = -1,684"]
+    equal("a year before the year 1", run(browser, "return ['caption', 'year-words'].map((id) => element(id).textContent)"), captions)
     open_page(browser, "#year=9999&place=nowhere")
     equal("a link to nowhere", run(browser, "return [shown('ours'), element('said').textContent.length > 0]"), [False, True])
 
@@ -376,6 +377,10 @@ def check_keyboard(browser):
             copied = run_async(browser, "return navigator.clipboard.readText()")
             header = "Term\tDay's name\tDay\tTime\tJulian Day Number\tDate (Gregorian)"
             equal("the copied table", copied.split("\n"), [header, *rows(1, PLACES[1][1])])
+            run(browser, "Object.defineProperty(navigator, 'clipboard', {value: undefined})")
+            browser.press(SPACE)
+            selected = run(browser, "return [element('copied').textContent, getSelection().toString().includes(element('rows').rows[23].cells[4].textContent)]")
+            equal("selected, where it cannot be copied", selected, ["The table is selected: copy it with Ctrl+C.", True])
 
 
 def check_text_alternatives(browser):
@@ -400,7 +405,7 @@ def check_widths(browser, folder):
     """Nothing reaches past the window's side, in the widest states too: long words, a longitude of one's own, two walls."""
     long_name = folder / ("a-name-without-a-blank-" * 6)
     long_name.write_bytes(changed(term_book.year_bytes(-2000), (5 + 5, 0)))
-    for width in (400, 1000, 1600):
+    for width in (400, 1200, 1600):
         browser.size(width, 900)
         for scheme in ("light", "dark"):
             browser.colours(scheme)
