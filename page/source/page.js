@@ -4,15 +4,18 @@ const element = (id) => document.getElementById(id);
 
 const NOTHING_DIFFERS = { dayName: false, mansion: false, days: [], minutes: [] };
 
-let heldBook = null; // a sound book: its name, its length and its years
+let heldBook = null; // a sound book: its length and its years
 let linkTimer;
 
 // What the controls ask.
 
 const askedYear = () => element('year').valueAsNumber;
 
+// None for a longitude of one's own, the last choice.
+const chosenPlace = () => PLACES[element('place').selectedIndex];
+
 function askedLongitude() {
-    const chosen = PLACES[element('place').selectedIndex];
+    const chosen = chosenPlace();
     if (chosen) {
         return chosen.longitude;
     }
@@ -22,7 +25,7 @@ function askedLongitude() {
 
 // The place's name on the wall; none at the capital, whose wall is the picture itself.
 function askedPlaceName() {
-    const chosen = PLACES[element('place').selectedIndex];
+    const chosen = chosenPlace();
     if (chosen === PLACES[0]) {
         return '';
     }
@@ -59,7 +62,7 @@ function readLink() {
 function writeLink() {
     clearTimeout(linkTimer);
     linkTimer = setTimeout(() => {
-        const chosen = PLACES[element('place').selectedIndex];
+        const chosen = chosenPlace();
         const placed = chosen ? chosen.latin.toLowerCase() : askedLongitude();
         history.replaceState(null, '', `#year=${element('year').value}&place=${placed}`);
     }, 200);
@@ -137,7 +140,7 @@ function namedYear(n) {
 }
 
 function show() {
-    element('longitude').hidden = element('place').selectedIndex < PLACES.length;
+    element('longitude').hidden = Boolean(chosenPlace());
     const { year, words } = askedAnswer();
     const placeName = askedPlaceName();
     element('said').textContent = words || '';

@@ -40,12 +40,13 @@ def gregorian(julian_day_number):
     return f"{found.day} {MONTHS[found.month - 1]} {year_said(found.year - 3 * 400 - 1684)}"
 
 
+def at_place(moments, longitude):
+    return [tuple(map(int, re.findall(r"-?\d+", local(day, minute, longitude)))) for day, minute in moments]
+
+
 def times(n, longitude=0):
     """Day and minute of each term at a place."""
-    found = [term_values(n, k)[:2] for k in range(24)]
-    if longitude == 0:
-        return found
-    return [tuple(map(int, re.findall(r"-?\d+", local(day, minute, longitude)))) for day, minute in found]
+    return at_place([term_values(n, k)[:2] for k in range(24)], longitude)
 
 
 def rows_of(n, moments):

@@ -14,7 +14,8 @@ from pathlib import Path
 
 from browser import Browser
 from expected_page import MANSIONS, PLACES, PROGRAM, ROOT_FOLDER, TERMS, WORDS
-from expected_page import block_texts, book_said, clock, day_name, expected_year, ring, rows, sixty, term_book, times, year_said
+from expected_page import at_place, block_texts, book_said, clock, day_name, expected_year, ring, rows, rows_of, sixty, term_book, times
+from expected_page import year_said
 
 PAGE = ROOT_FOLDER / "target/wall.html"
 YEARS = range(-2000, 2001)
@@ -302,7 +303,9 @@ def check_beside_ours(browser, folder):
     ]
     equal("the differing year", said, "The year 1684 in the book: what differs is marked.")
     equal("what differs", found, ["1684", marks(ours, mansion_ours), marks(theirs, MANSIONS[7]), lines, True])
-    equal("the book's wall", run(browser, "return texts('#their-wall g text')")[1::3], [" ".join(day_texts(theirs, k)) for k in range(24)])
+    for place, longitude in [(2, 13_284), (0, 0)]:
+        wall = run(browser, "element('place').selectedIndex = arguments[0]; set('place', element('place').value); return texts('#their-wall g text')", place)
+        equal(f"the book's wall at place {place}", wall, block_texts(rows_of(0, at_place(theirs, longitude))))
 
     # In the last year the day name differs: each term's day has another name.
     browser.click("#next-differing")
