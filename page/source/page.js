@@ -113,7 +113,9 @@ function showTable(year, placeName) {
 // The held book's year beside ours; answers what differs.
 function showBookYear(ours, placeName) {
     const said = element('book-year');
-    [said, element('differences'), element('their-wall')].forEach((part) => part.replaceChildren());
+    [said, element('differences'), element('their-wall')].forEach((part) => {
+        part.textContent = '';
+    });
     element('theirs').hidden = true;
     if (!heldBook || !ours) {
         return NOTHING_DIFFERS;
