@@ -45,7 +45,7 @@ function middle(year, differs, placeName) {
         lines.push('<text x="500" y="684" class="pale" lang="en" font-size="16">inner ticks: the sun at each midnight</text>');
     }
     if (placeName) {
-        lines.push(`<text x="500" y="708" class="pale" lang="en" font-size="16">the terms by the time of ${placeName}</text>`);
+        lines.push(`<text x="500" y="632" class="pale" lang="en" font-size="16">the terms by the time of ${placeName}</text>`);
     }
     return lines.join('');
 }

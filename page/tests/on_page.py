@@ -29,12 +29,14 @@ class Differs(Exception):
 
 
 def equal(what, found, expected):
+    """Of lists, the first item that differs is shown, or what the longer one has more."""
     if found == expected:
         return
     if isinstance(found, list) and isinstance(expected, list):
         for i, (one, other) in enumerate(zip(found, expected)):
             equal(f"{what}, item {i}", one, other)
-        equal(f"{what}, the number of items", len(found), len(expected))
+        both = min(len(found), len(expected))
+        what, found, expected = f"{what}, after {both} items", found[both:], expected[both:]
     raise Differs(f"{what}:\n  the page   {found!r}\n  expected   {expected!r}")
 
 

@@ -15,7 +15,7 @@ from expected_page import PLACES, PROGRAM, expected_year
 from on_page import Differs
 from use import check_keyboard, check_link, check_nothing_leaves, check_print, check_size, check_text_alternatives, check_times
 from use import check_told_where_it_cannot_run, check_widths
-from years import WALL_YEARS, YEARS, check_every_year, check_places, check_refused, check_walls
+from years import WALL_YEARS, YEARS, check_every_year, check_inside_the_ring, check_places, check_refused, check_walls
 
 
 def checked(browser, pool, folder):
@@ -24,6 +24,7 @@ def checked(browser, pool, folder):
     check_text_alternatives(browser)
     check_walls(browser)
     check_places(browser)
+    check_inside_the_ring(browser)
     check_refused(browser)
     check_beside_ours(browser, folder)
     check_link(browser)

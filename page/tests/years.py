@@ -85,6 +85,23 @@ def check_places(browser):
         equal(f"the table {side} {degrees} {minutes} {seconds}", table, rows(0, side * (3600 * degrees + 60 * minutes + seconds)))
 
 
+def check_inside_the_ring(browser):
+    """No words inside the ring reach the ticks, not the longest: a year before the year 1 at a longitude of one's own."""
+    open_page(browser, "#year=-316&place=-647999")
+    furthest = run(
+        browser,
+        """
+        return Array.from(document.querySelectorAll('#our-wall svg > text'), (text) => {
+            const {x, y, width, height} = text.getBBox();
+            const corners = [[x, y], [x + width, y], [x, y + height], [x + width, y + height]];
+            return [text.textContent, Math.max(...corners.map(([across, down]) => Math.hypot(across - 500, down - 500)))];
+        });
+        """,
+    )
+    equal("words in the ring", len(furthest), 7)
+    equal("words that reach the ticks", [text for text, distance in furthest if distance > 298], [])
+
+
 def check_refused(browser):
     """No year and no place that is refused, or is no number, leaves a wall or a table of another."""
     open_page(browser)
