@@ -14,7 +14,7 @@ from pathlib import Path
 ROOT_FOLDER = Path(__file__).resolve().parent.parent
 NOT_OURS = {"requires", "ensures", "io", "libc"}  # words and crates of the language
 NAMED_WHOLLY = ("PROMISES.md", "ARCHITECTURE.md")
-FILE_KINDS = "antt|rt|edit|md|py|rs|c|h|svg|txt|in|out|err|given"
+FILE_KINDS = "antt|rt|edit|md|py|rs|c|h|svg|html|css|js|txt|in|out|err|given"
 NAME = r"[A-Za-z][\w′-]*"
 
 
