@@ -43,21 +43,16 @@ module _ (v : BookYear) where
     unfolding writeAnswer
     write-1 e = rw e
 
-    module _ (e : badYear (v .yearN) ≡ false) where
-      pub list-6 : length (v .yearTerms) < 24 → writeAnswer v b ≡ refused 6
+    module _ (e : badYear (v .yearN) ≡ false) (g : 24 ≤ length (v .yearTerms)) where
+      pub buffer-6 : length b < 149 → writeAnswer v b ≡ refused 6
       unfolding writeAnswer
-      list-6 h = rw (e, lt-ltb (length (v .yearTerms)) 24 h)
+      buffer-6 h = rw (e, le-ltb (length (v .yearTerms)) 24 g, lt-ltb (length b) 149 h)
 
-      module _ (g : 24 ≤ length (v .yearTerms)) where
-        pub buffer-6 : length b < 149 → writeAnswer v b ≡ refused 6
+      module _ (h : 149 ≤ length b) where
+        pub write-9 : badValues v ≡ true → writeAnswer v b ≡ refused 9
         unfolding writeAnswer
-        buffer-6 h = rw (e, le-ltb (length (v .yearTerms)) 24 g, lt-ltb (length b) 149 h)
+        write-9 f = rw (e, le-ltb (length (v .yearTerms)) 24 g, le-ltb (length b) 149 h, f)
 
-        module _ (h : 149 ≤ length b) where
-          pub write-9 : badValues v ≡ true → writeAnswer v b ≡ refused 9
-          unfolding writeAnswer
-          write-9 f = rw (e, le-ltb (length (v .yearTerms)) 24 g, le-ltb (length b) 149 h, f)
-
-          pub write-done : badValues v ≡ false → writeAnswer v b ≡ value (bytesOf v (drop 149 b))
-          unfolding writeAnswer
-          write-done f = rw (e, le-ltb (length (v .yearTerms)) 24 g, le-ltb (length b) 149 h, f)
+        pub write-done : badValues v ≡ false → writeAnswer v b ≡ value (bytesOf v (drop 149 b))
+        unfolding writeAnswer
+        write-done f = rw (e, le-ltb (length (v .yearTerms)) 24 g, le-ltb (length b) 149 h, f)
