@@ -1,10 +1,11 @@
 """The term book by document 01's rules alone: years written, books read, and the damaged books that the
-program book_cases is run on. Shares nothing with the Rattle sources; expected.py writes its files.
+program book_cases is run on; and a sheet of corrections beside a book, by document 02's. Shares nothing with
+the Rattle sources; expected.py writes its files.
 """
 
 import random
 
-from expected import Refused, day_name, lines_of, mansion, run_files, term_values, year_asked
+from expected import Refused, day_name, lines_of, mansion, require_year, run_files, term_values, year_asked
 
 YEAR_KIND, TERM_KIND = 1, 2
 BODY = {YEAR_KIND: 4, TERM_KIND: 5}
@@ -163,6 +164,50 @@ def handed_out(book):
             yield " 0:refused {} at {}".format(*refusal.args)
 
 
+# A sheet of corrections beside the main book. A book's refusal has its number, its byte and which book.
+
+CORRECTIONS, MAIN = "corrections", "main"
+
+
+def years_in(which, book):
+    try:
+        return years_of(book)
+    except Refused as refusal:
+        raise Refused(*refusal.args, which) from None
+
+
+def corrected(corrections, main, n):
+    """Which book the year is handed out from, and where its part of that book starts and ends."""
+    require_year(n)
+    books = [(which, years_in(which, book)) for which, book in ((CORRECTIONS, corrections), (MAIN, main))]
+    for which, years in books:
+        for year, start, end in years:
+            if year == n:
+                return which, start, end
+    raise Refused(12)
+
+
+def corrected_line(corrections, main, n):
+    """The part's length, N + 2,000 and last minute, 0 where it is empty; which book and where, or the refusal."""
+    part, answer = b"", ""
+    try:
+        which, start, end = corrected(corrections, main, n)
+        part = {CORRECTIONS: corrections, MAIN: main}[which][start:end]
+        answer = f"{which} {start} to {end}"
+    except Refused as refusal:
+        number, *place = refusal.args
+        answer = f"{place[1]} refused {number} at {place[0]}" if place else f"refused {number}"
+    name, last = (number_at(part, 1), number_at(part, 147)) if part else (0, 0)
+    return f"{len(part)}:{name}:{last} {answer}"
+
+
+def corrected_lines(book):
+    """Of a book in two: from its third year on as the corrections, what is before as the main book; from its second year on, the whole."""
+    second, third = (149, 298) if len(book) >= 298 else (len(book), len(book))
+    sheet, main = book[third:], book[:third]
+    return [corrected_line(sheet, main, 321), corrected_line(sheet, main, 0), corrected_line(book[second:], book, 0)]
+
+
 # Damage.
 
 BASE = b"".join(year_bytes(n) for n in (-676, 0, 321))
@@ -222,7 +267,7 @@ def case_input():
 def case_lines():
     for book in damaged_books():
         answers = said(checked, book), said(sought, book, 0), read_line(book), "".join(handed_out(book))
-        yield " | ".join(answers)
+        yield " | ".join([*answers, *corrected_lines(book)])
 
 
 # The program that writes the book of the year asked by its input's first line.

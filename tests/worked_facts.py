@@ -1,5 +1,5 @@
-"""The facts worked out in law/proofs/Worked*.antt, as rows of those files, by document 01's rules alone: the calls
-are chosen here, and what each answers is reckoned by expected.py and term_book.py. Shares nothing with the Rattle sources.
+"""The facts worked out in the Worked*.antt of law/proofs and corrections/proofs, as rows of those files, by the rules of documents 01
+and 02 alone: the calls are chosen here, and what each answers is reckoned by expected.py and term_book.py. Shares nothing with the Rattle sources.
 
     python3 tests/worked_facts.py   prints the rows, file by file
 
@@ -8,7 +8,7 @@ expected.py --check holds each file to its rows.
 
 import expected
 from expected import CIRCLE, DEGREE, HALF, MINUTE, QUARTER, SINE_STEP, Refused
-from term_book import first_year_asked, number_at, read_year, two_bytes, write_values, write_year, year_bytes, year_end, years_of
+from term_book import CORRECTIONS, MAIN, corrected, first_year_asked, number_at, read_year, two_bytes, write_values, write_year, year_bytes, year_end, years_of
 
 # How the definitions write a value.
 
@@ -268,6 +268,28 @@ def parts(book):
         at = end
         _, end, least = step(book[1], at, least)
     return f"partsOf {book[0]} ≡ " + " ∷ ".join([*found, "[]"])
+
+
+# A sheet of corrections beside the book: the year after 1684 corrected, its day name another.
+
+CORRECTED = changed(2, YEAR[2] + 1, YEAR[3] + 1)
+SHEET = "sheet", CORRECTED[1]
+LEAST, MOST = changed(1, *two_bytes(0)), changed(1, *two_bytes(4000))
+PARTS |= {book: text for text, book in (SHEET, LEAST, MOST)}
+WHICH = {CORRECTIONS: "theCorrections", MAIN: "theMain"}
+
+
+def correcting(corrections, main, n):
+    """The answer, the part, the book that it is put in and where it starts: an empty one at the start of the corrections."""
+    which, start, end = CORRECTIONS, 0, 0
+    try:
+        which, start, end = corrected(corrections[1], main[1], n)
+        found = f"foundIn {WHICH[which]} {start} {end}"
+    except Refused as refusal:
+        number, *place = refusal.args
+        found = f"unsoundIn {WHICH[place[1]]} {number} {place[0]}" if place else f"inNeither {number}"
+    part = {CORRECTIONS: corrections, MAIN: main}[which][1][start:end]
+    return f"Correcting {corrections[0]} {main[0]} {given(n)} ({found}) {PARTS[part]} {WHICH[which]} {start}"
 
 
 # A request line.
@@ -547,14 +569,50 @@ def handed():
     yield "seek-in-nothing", seeking(NOTHING, 0)
 
 
+def corrections():
+    yield f"sheet = {CORRECTED[0][1:-1]}"
+    yield "corrected", correcting(SHEET, THREE, 1)
+    yield "not-corrected", correcting(SHEET, THREE, 2)
+    yield "in-the-corrections-alone", correcting(SHEET, WHOLE, 1)
+    yield "in-neither", correcting(SHEET, THREE, 3)
+    yield "equal-books", correcting(THREE, THREE, 1)
+    yield "empty-sheet", correcting(NOTHING, THREE, 1)
+    yield "empty-sheet-12", correcting(NOTHING, THREE, 3)
+    yield "empty-main", correcting(SHEET, NOTHING, 1)
+    yield "empty-main-12", correcting(SHEET, NOTHING, 0)
+    yield "both-empty", correcting(NOTHING, NOTHING, 0)
+    # each of a book's refusals, in either
+    at_fault = {7: first(8), 8: changed(0, 3), 9: changed(9, *two_bytes(1440)), 10: changed(6, 1)}
+    for number, book in at_fault.items():
+        yield f"corrections-{number}", correcting(book, THREE, 1)
+        yield f"main-{number}", correcting(SHEET, book, 1)
+    yield "least", correcting(LEAST, THREE, -2000)
+    yield "most", correcting(SHEET, MOST, 2000)
+    # two refusals that meet: 1 for the year, the corrections', the main book's, 12
+    yield "year-corrections", correcting(BROKEN, THREE, 2001)
+    yield "year-main", correcting(SHEET, BROKEN, -2001)
+    yield "year-both", correcting(BROKEN, TWICE, 2001)
+    yield "year-12", correcting(NOTHING, NOTHING, -2001)
+    yield "corrections-main", correcting(BROKEN, TWICE, 0)
+    yield "corrections-main-changed-over", correcting(TWICE, BROKEN, 0)
+    yield "corrections-12", correcting(BROKEN, THREE, 3)
+    yield "main-12", correcting(SHEET, BROKEN, 3)
+    # a book at fault that has the year, or beside one that has it
+    yield "corrections-found", correcting(BROKEN, NEXT, 0)
+    yield "corrections-found-in-main", correcting(BROKEN, THREE, 2)
+    yield "main-found", correcting(SHEET, TWICE, 0)
+    yield "main-found-in-the-corrections", correcting(SHEET, BROKEN, 1)
+
+
 WORKED_FILES = {
-    "WorkedTerms": terms,
-    "WorkedBooks": books,
-    "WorkedParts": handed,
-    "WorkedLines": lines,
-    "WorkedOrders": orders,
-    "WorkedLimits": limits,
-    "WorkedEdges": edges,
+    "law/proofs/WorkedTerms": terms,
+    "law/proofs/WorkedBooks": books,
+    "law/proofs/WorkedParts": handed,
+    "law/proofs/WorkedLines": lines,
+    "law/proofs/WorkedOrders": orders,
+    "law/proofs/WorkedLimits": limits,
+    "law/proofs/WorkedEdges": edges,
+    "corrections/proofs/WorkedCorrections": corrections,
 }
 
 
@@ -566,7 +624,7 @@ def rows(file):
 def missing_rows():
     """The rows that are no line of their file."""
     for file in WORKED_FILES:
-        path = f"crates/law/proofs/{file}.antt"
+        path = f"crates/{file}.antt"
         stored = [line.strip() for line in (expected.ROOT_FOLDER / path).read_text().split("\n")]
         yield from (f"{path}: {row}" for row in rows(file) if row not in stored)
 

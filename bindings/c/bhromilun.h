@@ -8,6 +8,7 @@
    - no pointer is null, that of a buffer of length 0 neither, and each is aligned for its type;
    - an array has 24 places, and a buffer as many bytes as its length says;
    - no place that a call may store overlaps another that it is given.
+   Two books that are given may be the same bytes, or overlap: a call stores nothing in either.
    Numbers may have any value: one that is out of range is refused. Lengths and places in a book have 64
    bits on every target, also where a pointer has 32.
 
@@ -18,7 +19,7 @@
    one second of arc. A year of a term book takes 149 bytes.
 
    Refusals, in the order in which a call gives them, save that a book is gone over record by record and
-   each is refused 8, 7, 10, 9:
+   each is refused 8, 7, 10, 9, and that of two books the first is gone over whole before the second:
     1  an N outside -2,000 to 2,000
     2  a day outside -4 to 370, or a minute above 1,439
     3  a term above 23
@@ -28,9 +29,9 @@
     8  a kind of record that is neither 01 nor 02
     9  a field out of its range, read from a book or given to be written
    10  a record out of turn, the book ends inside a year, or a single year is read from no bytes
-   12  a year absent from a sound book
+   12  a year absent from a sound book, or from both where there are two
    With 7 to 10 from a book comes the byte where the record at fault starts; where the book ends between
-   records inside a year, that is its length. */
+   records inside a year, that is its length. Where there are two books, which of them comes too. */
 
 #ifndef BHROMILUN_H
 #define BHROMILUN_H
@@ -88,6 +89,17 @@ uint64_t bhromilun_check_book(const uint8_t *bytes, uint64_t length, uint64_t *b
    Stores: start and end on 0; byte, the byte at fault, on 7, 8, 9 and 10; none on 1 and 12. */
 uint64_t bhromilun_seek_year(const uint8_t *bytes, uint64_t length, int64_t n,
                              uint64_t *start, uint64_t *end, uint64_t *byte);
+
+/* Seeks the year's part in two books, a sheet of corrections and the main book: in the corrections if
+   they have it, else in the main book. which is 0 for the corrections and 1 for the main book; the part
+   is that book's bytes from start up to, and without, end. Both books are checked whole, also where the
+   corrections have the year. Refuses 1; then 7, 8, 9, 10 for the corrections; then 7, 8, 9, 10 for the
+   main book; then 12 if neither has the year.
+   Stores: which, start and end on 0; which and byte, the byte at fault in that book, on 7, 8, 9 and 10;
+   none on 1 and 12. */
+uint64_t bhromilun_corrected_year(const uint8_t *corrections, uint64_t corrections_length,
+                                  const uint8_t *main_book, uint64_t main_length, int64_t n,
+                                  uint64_t *which, uint64_t *start, uint64_t *end, uint64_t *byte);
 
 /* Reads the year at the start of the bytes: N, day name, mansion, day and minute of each of the 24
    terms, and in end the byte after the year, where a next one would start. What stands from there on is

@@ -1,9 +1,11 @@
 /* Prints the 24 terms of the epoch year 1684 with the number of each day's name and the time at the
-   capital, what its term book reads as, sound and damaged, and what a year out of range is answered.
+   capital, what its term book reads as, sound and damaged, which book the year comes from where a sheet
+   of corrections has it too, and what a year out of range is answered.
    ../rust/examples/year.rs prints the same. */
 
 #include <inttypes.h>
 #include <stdio.h>
+#include <string.h>
 
 #include "bhromilun.h"
 
@@ -48,6 +50,20 @@ int main(void)
     }
     printf("book: year %" PRId64 ", term 23 on day %" PRId64 ", %" PRIu64 " bytes after it\n",
            read, days[23], sizeof book - end);
+
+    uint8_t sheet[149];
+    uint64_t which, start;
+    memcpy(sheet, book, sizeof sheet);
+    sheet[10]++; /* term 0 a minute later */
+    refused = bhromilun_corrected_year(sheet, sizeof sheet, book, sizeof book, n, &which, &start,
+                                       &end, &byte);
+    if (refused != 0) {
+        printf("refused %" PRIu64 "\n", refused);
+        return 1;
+    }
+    printf("corrected: year %" PRId64 " from %s, %" PRIu64 " bytes\n",
+           n, which == 0 ? "the corrections" : "the main book", end - start);
+
     book[7] = 2; /* term 0 on day 511 */
     refused = bhromilun_read_year(book, sizeof book, &read, &day_name, &mansion, days, minutes,
                                   &end, &byte);

@@ -3,7 +3,7 @@
 
 use crate::reckoning::tables::{SINES, TANGENTS};
 use crate::reckoning::{self, book::YEAR_BYTES};
-use crate::{Refusal, Term};
+use crate::{CorrectedRefusal, CorrectedYear, Refusal, Term, Which};
 
 const CIRCLE: i64 = reckoning::CIRCLE as i64;
 const HALF_CIRCLE: u64 = reckoning::CIRCLE as u64 / 2;
@@ -271,6 +271,26 @@ pub fn seek_year(bytes: &[u8], n: i64) -> Result<&[u8], Refusal> {
     }
 }
 
+pub fn corrected_year<'a>(
+    corrections: &'a [u8],
+    main: &'a [u8],
+    n: i64,
+) -> Result<CorrectedYear<'a>, CorrectedRefusal> {
+    if !(-2_000..=2_000).contains(&n) {
+        return Err(CorrectedRefusal::number(1));
+    }
+    let found = |which, bytes: &'a [u8]| match read(bytes, (n + 2_000) as i32) {
+        Ok(Some(start)) => {
+            Ok(Some(CorrectedYear { which, part: &bytes[start..start + YEAR_BYTES] }))
+        }
+        Ok(None) => Ok(None),
+        Err(refusal) => Err(CorrectedRefusal { refusal, which: Some(which) }),
+    };
+    let in_corrections = found(Which::Corrections, corrections)?;
+    let in_main = found(Which::Main, main)?;
+    in_corrections.or(in_main).ok_or(CorrectedRefusal::number(12))
+}
+
 #[cfg(test)]
 mod tests {
     use super::*;
@@ -307,9 +327,8 @@ mod tests {
         }
     }
 
-    #[test]
-    fn books() {
-        let years = [-2_000, -1, 0, 2_000];
+    /// A book of these years, which both write the same.
+    fn written(years: &[i64]) -> Vec<u8> {
         let mut bytes = vec![0; YEAR_BYTES * years.len()];
         for (&n, part) in years.iter().zip(bytes.chunks_mut(YEAR_BYTES)) {
             let mut expected = [0; YEAR_BYTES];
@@ -317,6 +336,12 @@ mod tests {
             write_year(n, part).unwrap();
             assert_eq!(part, expected);
         }
+        bytes
+    }
+
+    #[test]
+    fn books() {
+        let mut bytes = written(&[-2_000, -1, 0, 2_000]);
         for length in 0..=bytes.len() {
             assert_eq!(check_book(&bytes[..length]), book::check_book(&bytes[..length]));
         }
@@ -330,6 +355,46 @@ mod tests {
                 assert_eq!(seek_year(&bytes, 0), book::seek_year(&bytes, 0), "{byte}: {value}");
             }
             bytes[byte] = kept;
+        }
+    }
+
+    /// The same answer, and the same part of the same book.
+    fn same_corrected_year(corrections: &[u8], main: &[u8], n: i64) {
+        let (ours, expected) =
+            (corrected_year(corrections, main, n), book::corrected_year(corrections, main, n));
+        assert_eq!(ours, expected, "{n} of {corrections:02x?} and {main:02x?}");
+        if let (Ok(ours), Ok(expected)) = (ours, expected) {
+            assert!(std::ptr::eq(ours.part, expected.part), "{n} of another book");
+        }
+    }
+
+    #[test]
+    fn corrected_years() {
+        let (mut corrections, mut main) = (written(&[-1, 2_000]), written(&[-2_000, -1, 0]));
+        let sought = [-2_001, -2_000, -2, -1, 0, 1, 2_000, 2_001];
+        for n in sought {
+            same_corrected_year(&corrections, &main, n);
+            same_corrected_year(&corrections, &corrections, n);
+            same_corrected_year(&corrections, &corrections.clone(), n);
+            for length in 0..=corrections.len() {
+                same_corrected_year(&corrections[..length], &main, n);
+                same_corrected_year(&corrections[..length], &main[..length], n);
+            }
+            for length in 0..=main.len() {
+                same_corrected_year(&corrections, &main[..length], n);
+            }
+        }
+        for byte in 0..corrections.len() {
+            let kept = (corrections[byte], main[byte]);
+            for value in 0..=255 {
+                corrections[byte] = value;
+                same_corrected_year(&corrections, &main, -1);
+                main[byte] = value;
+                same_corrected_year(&corrections, &main, -1);
+                corrections[byte] = kept.0;
+                same_corrected_year(&corrections, &main, -1);
+                main[byte] = kept.1;
+            }
         }
     }
 }

@@ -1,7 +1,7 @@
-//! Document 01 a second time, from outside: `reckoning` follows the document's sentences and shares
-//! nothing with the library's sources or tables; `fast` is the reckoning written for speed, for the
-//! benchmark. The types below carry answers and hold no rule; they have the names and fields of the
-//! bindings', but are not those. Only the programs in `bin` call the library.
+//! Document 01 and request K1 of document 02 a second time, from outside: `reckoning` follows their
+//! sentences and shares nothing with the library's sources or tables; `fast` is the reckoning written
+//! for speed, for the benchmark. The types below carry answers and hold no rule; they have the names
+//! and fields of the bindings', but are not those. Only the programs in `bin` call the library.
 
 pub mod fast;
 pub mod reckoning;
@@ -17,6 +17,34 @@ impl Refusal {
     /// A refusal that has nothing to do with a place in a book.
     pub const fn number(number: u64) -> Refusal {
         Refusal { number, byte: None }
+    }
+}
+
+/// One of the two books of request K1.
+#[derive(Clone, Copy, Debug, PartialEq, Eq)]
+pub enum Which {
+    Corrections,
+    Main,
+}
+
+/// A year's part of one of the two books, and which book it came from.
+#[derive(Clone, Copy, Debug, PartialEq, Eq)]
+pub struct CorrectedYear<'a> {
+    pub which: Which,
+    pub part: &'a [u8],
+}
+
+/// A refusal of request K1; a book's refusal also says which book.
+#[derive(Clone, Copy, Debug, PartialEq, Eq)]
+pub struct CorrectedRefusal {
+    pub refusal: Refusal,
+    pub which: Option<Which>,
+}
+
+impl CorrectedRefusal {
+    /// A refusal that is neither book's.
+    pub const fn number(number: u64) -> CorrectedRefusal {
+        CorrectedRefusal { refusal: Refusal::number(number), which: None }
     }
 }
 

@@ -1,5 +1,6 @@
 //! Prints the 24 terms of the epoch year 1684 with the number of each day's name and the time at the
-//! capital, what its term book reads as, sound and damaged, and what a year out of range is answered.
+//! capital, what its term book reads as, sound and damaged, which book the year comes from where a sheet
+//! of corrections has it too, and what a year out of range is answered.
 //! ../../c/example.c prints the same.
 
 use bhromilun::Refusal;
@@ -19,6 +20,11 @@ fn main() -> Result<(), Refusal> {
     let (year, rest) = bhromilun::read_year(&book)?;
     let day = year.terms[23].day;
     println!("book: year {}, term 23 on day {day}, {} bytes after it", year.n, rest.len());
+    let mut sheet = book;
+    sheet[10] += 1; // term 0 a minute later
+    let corrected =
+        bhromilun::corrected_year(&sheet, &book, n).map_err(|refused| refused.refusal)?;
+    println!("corrected: year {n} from {}, {} bytes", corrected.which, corrected.part.len());
     book[7] = 2; // term 0 on day 511
     if let Err(Refusal { number, byte: Some(byte) }) = bhromilun::read_year(&book) {
         println!("damaged book: refused {number} at byte {byte}");

@@ -41,7 +41,7 @@ const YEAR_BYTES: usize = 149;
 /// | 8 | a kind of record that is neither 01 nor 02 |
 /// | 9 | a field out of its range, read from a book or given to be written |
 /// | 10 | a record out of turn, the book ends inside a year, or a single year is read from no bytes |
-/// | 12 | a year absent from a sound book |
+/// | 12 | a year absent from a sound book, or from both where there are two |
 ///
 /// It prints as its number and these words:
 ///
@@ -57,11 +57,15 @@ pub struct Refusal {
     pub byte: Option<usize>,
 }
 
-impl fmt::Display for Refusal {
-    fn fmt(&self, f: &mut fmt::Formatter<'_>) -> fmt::Result {
+impl Refusal {
+    /// Prints it, and of which book it is where there are two.
+    fn print(&self, which: Option<Which>, f: &mut fmt::Formatter<'_>) -> fmt::Result {
         write!(f, "refused {}", self.number)?;
         if let Some(byte) = self.byte {
             write!(f, " at byte {byte}")?;
+        }
+        if let Some(which) = which {
+            write!(f, " of {which}")?;
         }
         let words = match self.number {
             1 => "an N outside -2,000 to 2,000",
@@ -80,7 +84,57 @@ impl fmt::Display for Refusal {
     }
 }
 
+impl fmt::Display for Refusal {
+    fn fmt(&self, f: &mut fmt::Formatter<'_>) -> fmt::Result {
+        self.print(None, f)
+    }
+}
+
 impl std::error::Error for Refusal {}
+
+/// One of the two books of [`corrected_year`]. It prints as "the corrections" or "the main book".
+#[derive(Clone, Copy, Debug, PartialEq, Eq)]
+pub enum Which {
+    /// The short book of years that were corrected by hand.
+    Corrections,
+    Main,
+}
+
+impl fmt::Display for Which {
+    fn fmt(&self, f: &mut fmt::Formatter<'_>) -> fmt::Result {
+        f.write_str(match self {
+            Which::Corrections => "the corrections",
+            Which::Main => "the main book",
+        })
+    }
+}
+
+/// A refusal of [`corrected_year`]: a book's also says which book.
+///
+/// ```
+/// let refused = bhromilun::corrected_year(&[1, 7, 0xd0, 60, 6], &[], 0).unwrap_err();
+/// let words = "refused 9 at byte 0 of the corrections: a field out of its range";
+/// assert_eq!(refused.to_string(), words);
+/// let refused = bhromilun::corrected_year(&[], &[], 0).unwrap_err();
+/// assert_eq!(refused.to_string(), "refused 12: a year that neither book has");
+/// ```
+#[derive(Clone, Copy, Debug, PartialEq, Eq)]
+pub struct CorrectedRefusal {
+    pub refusal: Refusal,
+    /// The book that is refused 7, 8, 9 or 10; 1 and 12 are refusals of neither.
+    pub which: Option<Which>,
+}
+
+impl fmt::Display for CorrectedRefusal {
+    fn fmt(&self, f: &mut fmt::Formatter<'_>) -> fmt::Result {
+        match self.refusal.number {
+            12 => f.write_str("refused 12: a year that neither book has"),
+            _ => self.refusal.print(self.which, f),
+        }
+    }
+}
+
+impl std::error::Error for CorrectedRefusal {}
 
 /// The mean winter solstice of a year.
 #[derive(Clone, Copy, Debug, Default, PartialEq, Eq)]
@@ -117,6 +171,14 @@ pub struct Year {
     pub mansion: u64,
     /// In order, term 0 first.
     pub terms: [Moment; 24],
+}
+
+/// A year's part of one of two books.
+#[derive(Clone, Copy, Debug, PartialEq, Eq)]
+pub struct CorrectedYear<'a> {
+    /// The book that it is a part of.
+    pub which: Which,
+    pub part: &'a [u8],
 }
 
 /// The answer, unless the number is that of a refusal, which has no byte.
@@ -303,6 +365,52 @@ pub fn seek_year(bytes: &[u8], n: i64) -> Result<&[u8], Refusal> {
         0 => Ok(&bytes[start as usize..end as usize]),
         number @ 7..=10 => Err(Refusal { number, byte: Some(byte as usize) }),
         number => Err(Refusal { number, byte: None }),
+    }
+}
+
+/// The year's part of the corrections if they have it, else of the main book, and which of the two that is.
+/// Both are checked whole, also where the corrections have the year. They may be the same bytes, or overlap.
+///
+/// Refuses 1; then 7, 8, 9, 10 for the corrections, then for the main book, each with its byte and the book;
+/// then 12 if neither has the year.
+///
+/// ```
+/// use bhromilun::Which;
+///
+/// let mut book = [0; 2 * 149];
+/// bhromilun::write_year(0, &mut book)?;
+/// bhromilun::write_year(1, &mut book[149..])?;
+/// let mut sheet = [0; 149];
+/// sheet.copy_from_slice(&book[149..]);
+/// sheet[10] ^= 1; // the minute of term 0, corrected by hand
+///
+/// let year = bhromilun::corrected_year(&sheet, &book, 1)?;
+/// assert_eq!((year.which, year.part), (Which::Corrections, &sheet[..]));
+/// let year = bhromilun::corrected_year(&sheet, &book, 0)?;
+/// assert_eq!((year.which, year.part), (Which::Main, &book[..149]));
+///
+/// let refused = bhromilun::corrected_year(&sheet, &book[..148], 1).unwrap_err();
+/// assert_eq!((refused.refusal.number, refused.refusal.byte), (7, Some(143)));
+/// assert_eq!(refused.which, Some(Which::Main));
+/// # Ok::<(), Box<dyn std::error::Error>>(())
+/// ```
+pub fn corrected_year<'a>(
+    corrections: &'a [u8],
+    main: &'a [u8],
+    n: i64,
+) -> Result<CorrectedYear<'a>, CorrectedRefusal> {
+    let (mut which, mut start, mut end, mut byte) = (0, 0, 0, 0);
+    let number =
+        plain::corrected_year(corrections, main, n, &mut which, &mut start, &mut end, &mut byte);
+    let (which, book) = match which {
+        0 => (Which::Corrections, corrections),
+        _ => (Which::Main, main),
+    };
+    let refused = |byte, which| CorrectedRefusal { refusal: Refusal { number, byte }, which };
+    match number {
+        0 => Ok(CorrectedYear { which, part: &book[start as usize..end as usize] }),
+        7..=10 => Err(refused(Some(byte as usize), Some(which))),
+        _ => Err(refused(None, None)),
     }
 }
 

@@ -46,6 +46,17 @@ mod library {
             end: &mut u64,
             byte: &mut u64,
         ) -> u64;
+        pub fn bhromilun_corrected_year(
+            corrections: *const u8,
+            corrections_length: u64,
+            main_book: *const u8,
+            main_length: u64,
+            n: i64,
+            which: &mut u64,
+            start: &mut u64,
+            end: &mut u64,
+            byte: &mut u64,
+        ) -> u64;
         pub fn bhromilun_read_year(
             bytes: *const u8,
             length: u64,
@@ -126,6 +137,34 @@ pub fn check_book(bytes: &[u8], byte: &mut u64) -> u64 {
 pub fn seek_year(bytes: &[u8], n: i64, start: &mut u64, end: &mut u64, byte: &mut u64) -> u64 {
     let length = bytes.len() as u64;
     unsafe { library::bhromilun_seek_year(bytes.as_ptr(), length, n, start, end, byte) }
+}
+
+/// See [`corrected_year`](crate::corrected_year). `which` is 0 for the corrections and 1 for the main book.
+/// `which`, `start` and `end` are stored on 0, `which` and `byte` on 7, 8, 9 and 10, and none on 1 and 12.
+pub fn corrected_year(
+    corrections: &[u8],
+    main: &[u8],
+    n: i64,
+    which: &mut u64,
+    start: &mut u64,
+    end: &mut u64,
+    byte: &mut u64,
+) -> u64 {
+    let (sheet, sheet_length) = (corrections.as_ptr(), corrections.len() as u64);
+    let (book, length) = (main.as_ptr(), main.len() as u64);
+    unsafe {
+        library::bhromilun_corrected_year(
+            sheet,
+            sheet_length,
+            book,
+            length,
+            n,
+            which,
+            start,
+            end,
+            byte,
+        )
+    }
 }
 
 /// See [`read_year`](crate::read_year). On 0 all but `byte` is stored, `end` being the byte after the

@@ -1,2 +1,3 @@
 pub mod HeldFast
 pub mod ReturnTrips
+pub mod WhichBook

@@ -5,6 +5,7 @@ use Prim.Native.Nat.{ℕ}
 use lib.IntN.{ℤ}
 use Rattle.reasoning.specs.Answer.{Answer, value, refused}
 use Rattle.law.specs.Book.{Checked, sound, faulty, Sought, found, unsound, noYear, BookYear, yearFrom, valuesIn}
+use Rattle.corrections.specs.Corrections.{Which, theCorrections, theMain, Corrected, foundIn, unsoundIn, inNeither, soughtThere}
 use Rattle.bhromilun.specs.Told.{Lent, Stored}
 use Rattle.bhromilun.specs.Columns.{daysOf, minutesOf, termsGiven}
 
@@ -50,6 +51,21 @@ pub record ToldSought (sought : Sought) (r : ℕ) (start end byte : Lent ℕ) : 
   pub partStart : start .after ≡ startIn (start .before) sought
   pub partEnd : end .after ≡ endIn (end .before) sought
   pub faultByte : byte .after ≡ unsoundAt (byte .before) sought
+
+-- ---- a year sought in the corrections, then in the main book: the same, and which book
+
+abbrev pub whichNumber : Which → ℕ
+whichNumber theCorrections = 0
+whichNumber theMain = 1
+
+abbrev pub whichIn : ℕ → Corrected → ℕ
+whichIn before (foundIn which start end) = whichNumber which
+whichIn before (unsoundIn which number byte) = whichNumber which
+whichIn before (inNeither number) = before
+
+pub record ToldCorrected (answer : Corrected) (r : ℕ) (which start end byte : Lent ℕ) : Type 0 where
+  pub sought : ToldSought (soughtThere answer) r start end byte
+  pub whichBook : which .after ≡ whichIn (which .before) answer
 
 -- ---- a year read: the same
 

@@ -3,15 +3,20 @@ use crate::columns::store_columns;
 use crate::columns::terms_from;
 use book::BookAnswer;
 use book::Sought;
+use corrections::Corrected;
+use corrections::Which;
+use corrections::corrected_year;
 use values::Head;
 use values::Written;
 ghost use mathlib.Core.Path.{_≡_};
 ghost use Rattle.reasoning.specs.Answer.{refusalIn};
 ghost use Rattle.law.specs.Document.{epicycles};
 ghost use Rattle.law.specs.Book.{writeAnswer, workedAnswer, bookOf, seekOf};
+ghost use Rattle.corrections.specs.Corrections.{correctedOf};
+ghost use Rattle.corrections.specs.Said.{saidWhich, saidCorrected};
 ghost use Rattle.values.specs.Said.{saidWritten};
 ghost use Rattle.bhromilun.specs.Told.{Told, lent};
-ghost use Rattle.bhromilun.specs.Books.{ToldCheck, ToldSought, ToldRead, yearGiven};
+ghost use Rattle.bhromilun.specs.Books.{ToldCheck, ToldSought, ToldCorrected, whichNumber, ToldRead, yearGiven};
 
 // The writer has filled the buffer itself.
 fn tell_written(answer: Written) -> u64
@@ -70,6 +75,53 @@ pub extern "C" fn bhromilun_seek_year(
             units::refusal_number(refusal)
         }
         Sought::Refused(refusal) => units::refusal_number(refusal),
+    }
+}
+
+fn which_number(which: Which) -> u64
+    ensures { λ r. ⌜ r ≡ whichNumber (saidWhich which) ⌝ }
+{
+    match which {
+        Which::Corrections => 0,
+        Which::Main => 1,
+    }
+}
+
+// The answer without the part, which has no form in C.
+fn corrected<'a>(corrections: &'a [u8], main: &'a [u8], n: i64) -> Corrected
+    ensures { λ r. ⌜ saidCorrected r ≡ correctedOf (now (corrections .entry)) (now (main .entry)) n ⌝ }
+{
+    let year = corrected_year(corrections, main, n);
+    year.what
+}
+
+// Seeks a year in the corrections, then in the main book, both checked whole. Where it is found its part of that book starts and ends at
+// these bytes; a book at fault is so at `byte`. `which` is 0 for the corrections and 1 for the main book.
+#[no_mangle]
+pub extern "C" fn bhromilun_corrected_year<'a>(
+    corrections: &'a [u8],
+    main: &'a [u8],
+    n: i64,
+    which: &mut u64,
+    start: &mut usize,
+    end: &mut usize,
+    byte: &mut usize,
+) -> u64
+    ensures { λ r. ⌜ ToldCorrected (correctedOf (now (corrections .entry)) (now (main .entry)) n) r (lent which) (lent start) (lent end) (lent byte) ⌝ }
+{
+    match corrected(corrections, main, n) {
+        Corrected::Found(book, from, to) => {
+            *which = which_number(book);
+            *start = from;
+            *end = to;
+            0
+        }
+        Corrected::Unsound(book, refusal, at) => {
+            *which = which_number(book);
+            *byte = at;
+            units::refusal_number(refusal)
+        }
+        Corrected::Refused(refusal) => units::refusal_number(refusal),
     }
 }
 

@@ -71,7 +71,7 @@ check-book-held M 𝓤 H A mem run κs a = by-facts 𝓤 (λ z z′ w w′ p q. 
 pub seek-year-held : Held seek-year.ended (λ M. seek-year.clauses {M = M})
 seek-year-held M 𝓤 H A mem run κs a = by-facts 𝓤 (λ z z′ w w′ p q. (one-said saidSought soughtFrom sought-back p q, refl))
 
-one-part : {lent : RefT (List ℕ)} {b : List ℕ} {start : ℕ} {r r′ : RefT (List ℕ)} → PartIs lent b start r → PartIs lent b start r′ → _≡_ {A = List ℕ × (ℕ × ℕ)} (now r, ptr r) (now r′, ptr r′)
+pub one-part : {lent : RefT (List ℕ)} {b : List ℕ} {start : ℕ} {r r′ : RefT (List ℕ)} → PartIs lent b start r → PartIs lent b start r′ → _≡_ {A = List ℕ × (ℕ × ℕ)} (now r, ptr r) (now r′, ptr r′)
 one-part p q = pair≡ (one (p .bytes) (q .bytes)) (one (p .place) (q .place))
 
 -- a part of the lent book is seen as its bytes and their place

@@ -1,9 +1,9 @@
 -- In a sound book, seeking a year in range finds it exactly when one of the parts that a reader hands out has that N, hands out just
--- that part, 149 bytes, and is refused 12 else. Assumes nothing.
+-- that part, 149 bytes, and is refused 12 else. What is found of any bytes lies within them. Assumes nothing.
 use mathlib.Core.Bool.{Bool, true, false, cond, _||_}
 use mathlib.Core.List.{List, [], _∷_}
 use mathlib.Core.Path.{_≡_, refl, _∙_, ap, sym}
-use Prim.Native.Nat.{ℕ, zero, suc, _+_, _-_, _≤_}
+use Prim.Native.Nat.{ℕ, zero, suc, _+_, _-_, _≤_, _<_}
 use native.Mathlib.Decide.{decLt}
 use native.Mathlib.Omega.{arith}
 use lib.Dec.{eqb}
@@ -14,7 +14,7 @@ use Rattle.law.specs.Document.{badYear}
 use Rattle.law.specs.Index.{yearIndex}
 use Rattle.law.specs.Book.{Checked, sound, faulty, Sought, found, unsound, noYear, twoAt, bookFrom, bookOf, Next, nextYear, bookEnd, stop, nextAt, handOut, partsFrom, partsOf, yearSize, seekFrom, seekIn, ifSound, seekOf, partOf}
 use Rattle.book.proofs.BookSteps.{moved, next-end, isSound}
-use Rattle.book.proofs.seek.SeekSteps.{seek-none, seek-moved, seek-inside}
+use Rattle.book.proofs.seek.SeekSteps.{seek-none, seek-moved, seek-inside, found-within}
 use Rattle.book.proofs.WholeBooks.{handed, by-dec}
 
 -- the first part whose N + 2,000 is y, empty where there is none
@@ -80,7 +80,7 @@ either-12 : (t : Bool) (a e : ℕ) (y : Sought) → (isFound y ≡ false → y �
 either-12 true a e y f h = absurd (let z : _≡_ {A = ℕ} 0 1 = cc in omega arith)
 either-12 false a e y f h = f h
 
-found-or-12 : (most y at : ℕ) (b : List ℕ) → isFound (seekFrom most y at b) ≡ false → seekFrom most y at b ≡ noYear 12
+pub found-or-12 : (most y at : ℕ) (b : List ℕ) → isFound (seekFrom most y at b) ≡ false → seekFrom most y at b ≡ noYear 12
 unfolding seekFrom
 found-or-12 zero y at b h = refl
 found-or-12 (suc most) y at [] h = refl
@@ -134,3 +134,6 @@ module _ (s : List ℕ) (N : ℤ) (h : badYear N ≡ false) (o : isSound (bookOf
 
   pub absent-refused : isAmong (yearIndex N) (partsOf s) ≡ false → seekOf s N ≡ noYear 12
   absent-refused a = sought ∙ found-or-12 (length s) (yearIndex N) 0 s (ap isFound (sym sought) ∙ (found-exactly ∙ a))
+
+pub found-inside : (s : List ℕ) (N : ℤ) (a e : ℕ) → seekOf s N ≡ found a e → (a < e) × (e ≤ length s)
+found-inside s N a e h = let w = found-within s N a e h in (w .to, omega (arith, w))

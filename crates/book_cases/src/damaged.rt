@@ -1,6 +1,8 @@
-// Of each damaged book: what checking it, seeking the year 0 in it, reading its first year and a reader's calls answer.
+// Of each damaged book: what checking it, seeking the year 0 in it, reading its first year and a reader's calls answer, and what is
+// handed out where its years are corrections and a main book.
 use crate::bytes::byte_at;
 use crate::bytes::two_at;
+use crate::corrected;
 use crate::read::read_year;
 use crate::readers;
 use crate::refusals::refused_at;
@@ -54,6 +56,8 @@ fn line(bytes: &[u8]) {
     read_year(bytes);
     text(b" | ");
     readers::calls(bytes);
+    text(b" | ");
+    corrected::years(bytes);
     text(b"\n");
 }
 

@@ -2,6 +2,7 @@
 // changes of a base book, one after the other: the new length, the number of bytes changed, and each place
 // and byte. tests/expected.py makes stdin and stdout.
 mod bytes;
+mod corrected;
 mod damaged;
 mod read;
 mod readers;

@@ -9,19 +9,19 @@ use Rattle.law.specs.Book.{recordSize, outOfTurn, outOfRange, recordAnsw
 use Rattle.law.proofs.WorkedBooks.{year, with}
 
 -- the two years after, a book of all three, one with the same year twice, and one that is cut inside a term of its second year
-abbrev next : List ℕ
+abbrev pub next : List ℕ
 next = with 2 (209 ∷ [])
 
-abbrev last : List ℕ
+abbrev pub last : List ℕ
 last = with 2 (210 ∷ [])
 
-abbrev three : List ℕ
+abbrev pub three : List ℕ
 three = year ++ (next ++ last)
 
 abbrev pub twice : List ℕ
 twice = year ++ year
 
-abbrev broken : List ℕ
+abbrev pub broken : List ℕ
 broken = year ++ take 8 next
 
 -- a call at this byte, with the least N + 2,000 that may stand there: what it finds, the part and its start, the byte and least then

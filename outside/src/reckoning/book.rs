@@ -1,9 +1,9 @@
 //! The term book: its writers, its check, the reading of one year and the search for one, as document
-//! 01 sets them out. The check reads record by record; a fault is named by its number and the record's
-//! first byte.
+//! 01 sets them out; and the search in two books, as request K1 of document 02 does. The check reads
+//! record by record; a fault is named by its number and the record's first byte.
 
 use super::{term, year, year_in_range};
-use crate::{Moment, Refusal, Year};
+use crate::{CorrectedRefusal, CorrectedYear, Moment, Refusal, Which, Year};
 
 pub const YEAR_BYTES: usize = 149;
 
@@ -155,21 +155,58 @@ pub fn check_book(bytes: &[u8]) -> Result<(), Refusal> {
     read(bytes, |_, _| {})
 }
 
-/// The first byte of the year's part. The whole book is read before a year is called absent.
-pub fn seek_start(bytes: &[u8], n: i64) -> Result<usize, Refusal> {
-    year_in_range(n)?;
+/// The first byte of the year's part, if the book has it; the whole book is read. `n` is in range.
+fn find(bytes: &[u8], n: i64) -> Result<Option<usize>, Refusal> {
     let mut found = None;
     read(bytes, |this_year, at| {
         if i64::from(this_year) == n + 2_000 {
             found = Some(at);
         }
     })?;
-    found.ok_or(Refusal::number(12))
+    Ok(found)
+}
+
+/// The first byte of the year's part. The whole book is read before a year is called absent.
+pub fn seek_start(bytes: &[u8], n: i64) -> Result<usize, Refusal> {
+    year_in_range(n)?;
+    find(bytes, n)?.ok_or(Refusal::number(12))
 }
 
 pub fn seek_year(bytes: &[u8], n: i64) -> Result<&[u8], Refusal> {
     let start = seek_start(bytes, n)?;
     Ok(&bytes[start..start + YEAR_BYTES])
+}
+
+/// Request K1: which book the year comes from, and the first byte of its part there. Both books are
+/// read whole, the corrections first, also where these have the year.
+pub fn corrected_start(
+    corrections: &[u8],
+    main: &[u8],
+    n: i64,
+) -> Result<(Which, usize), CorrectedRefusal> {
+    let refused_by = |which| move |refusal| CorrectedRefusal { refusal, which };
+    year_in_range(n).map_err(refused_by(None))?;
+    let in_corrections = find(corrections, n).map_err(refused_by(Some(Which::Corrections)))?;
+    let in_main = find(main, n).map_err(refused_by(Some(Which::Main)))?;
+    match (in_corrections, in_main) {
+        (Some(start), _) => Ok((Which::Corrections, start)),
+        (None, Some(start)) => Ok((Which::Main, start)),
+        (None, None) => Err(CorrectedRefusal::number(12)),
+    }
+}
+
+/// The year's part of whichever book it comes from.
+pub fn corrected_year<'a>(
+    corrections: &'a [u8],
+    main: &'a [u8],
+    n: i64,
+) -> Result<CorrectedYear<'a>, CorrectedRefusal> {
+    let (which, start) = corrected_start(corrections, main, n)?;
+    let book = match which {
+        Which::Corrections => corrections,
+        Which::Main => main,
+    };
+    Ok(CorrectedYear { which, part: &book[start..start + YEAR_BYTES] })
 }
 
 #[cfg(test)]
@@ -273,5 +310,93 @@ mod tests {
         assert_eq!(seek_year(&bytes, 2_001), Err(Refusal::number(1)));
         assert_eq!(seek_year(&bytes[..446], -5), Err(Refusal { number: 7, byte: Some(441) }));
         assert_eq!(seek_year(&[], 0), Err(Refusal::number(12)));
+    }
+
+    /// Whether the year is handed out as that very part, of that very book.
+    fn hands_out(corrections: &[u8], main: &[u8], n: i64, which: Which, part: &[u8]) -> bool {
+        let year = corrected_year(corrections, main, n).unwrap();
+        year.which == which && std::ptr::eq(year.part, part)
+    }
+
+    /// Books that are refused 7, 8, 9 and 10, all at the head of their second year. Their first is -1.
+    fn books_at_fault() -> Vec<(Vec<u8>, Refusal)> {
+        let sound = book(&[-1, 0]);
+        let with = |byte: usize, value| {
+            let mut bytes = sound.clone();
+            bytes[byte] = value;
+            bytes
+        };
+        let cut = sound[..YEAR_BYTES + 1].to_vec();
+        [(7, cut), (8, with(149, 3)), (9, with(152, 60)), (10, with(149, 2))]
+            .into_iter()
+            .map(|(number, bytes)| (bytes, Refusal { number, byte: Some(YEAR_BYTES) }))
+            .collect()
+    }
+
+    #[test]
+    fn corrected_years() {
+        let (corrections, main) = (book(&[-3, 0]), book(&[-5, 0, 7]));
+        assert!(hands_out(&corrections, &main, 0, Which::Corrections, &corrections[149..]));
+        assert!(hands_out(&corrections, &main, -3, Which::Corrections, &corrections[..149]));
+        assert!(hands_out(&corrections, &main, -5, Which::Main, &main[..149]));
+        assert!(hands_out(&corrections, &main, 7, Which::Main, &main[298..]));
+        for n in [-2_000, -4, 1, 2_000] {
+            let answer = corrected_year(&corrections, &main, n);
+            assert_eq!(answer, Err(CorrectedRefusal::number(12)), "{n}");
+        }
+    }
+
+    #[test]
+    fn corrected_years_of_empty_books() {
+        let years = book(&[-5, 0]);
+        assert!(hands_out(&[], &years, 0, Which::Main, &years[149..]));
+        assert!(hands_out(&years, &[], 0, Which::Corrections, &years[149..]));
+        for (corrections, main) in [(&[][..], &[][..]), (&[], &years), (&years, &[])] {
+            let answer = corrected_year(corrections, main, 1);
+            assert_eq!(answer, Err(CorrectedRefusal::number(12)));
+            let answer = corrected_year(corrections, main, -2_001);
+            assert_eq!(answer, Err(CorrectedRefusal::number(1)));
+        }
+    }
+
+    #[test]
+    fn corrected_years_of_equal_books() {
+        let years = book(&[-5, 0]);
+        let copy = years.clone();
+        assert!(hands_out(&years, &years, 0, Which::Corrections, &years[149..]));
+        assert!(hands_out(&years, &copy, 0, Which::Corrections, &years[149..]));
+        assert!(hands_out(&copy, &years, 0, Which::Corrections, &copy[149..]));
+        // Two that overlap in one year.
+        let years = book(&[-5, 0, 7]);
+        assert!(hands_out(&years[..298], &years[149..], 0, Which::Corrections, &years[149..298]));
+        assert!(hands_out(&years[..298], &years[149..], 7, Which::Main, &years[298..]));
+    }
+
+    /// 1, then the corrections' 7 to 10, then the main book's, then 12: each is refused before all that
+    /// come after it, with a year that the one book has, the other, or neither.
+    #[test]
+    fn corrected_years_refused_in_order() {
+        let sound = book(&[5]);
+        let of = |which, refusal| Err(CorrectedRefusal { refusal, which: Some(which) });
+        for (bytes, refusal) in books_at_fault() {
+            for n in [-1, 5, 9] {
+                let in_corrections = of(Which::Corrections, refusal);
+                assert_eq!(corrected_year(&bytes, &sound, n), in_corrections);
+                assert_eq!(corrected_year(&bytes, &[], n), in_corrections);
+                assert_eq!(corrected_year(&bytes, &bytes, n), in_corrections);
+                for (main, _) in books_at_fault() {
+                    assert_eq!(corrected_year(&bytes, &main, n), in_corrections);
+                }
+                let in_main = of(Which::Main, refusal);
+                assert_eq!(corrected_year(&sound, &bytes, n), in_main);
+                assert_eq!(corrected_year(&[], &bytes, n), in_main);
+            }
+            for n in [i64::MIN, -2_001, 2_001, i64::MAX] {
+                for (corrections, main) in [(&bytes, &sound), (&sound, &bytes), (&bytes, &bytes)] {
+                    let answer = corrected_year(corrections, main, n);
+                    assert_eq!(answer, Err(CorrectedRefusal::number(1)));
+                }
+            }
+        }
     }
 }

@@ -25,6 +25,8 @@ fn main() {
     for (place, part) in book.chunks_mut(YEAR_BYTES).enumerate() {
         bhromilun::write_year(place as i64 - 2_000, part).unwrap();
     }
+    // Every 200th year of the book, up to 1,800.
+    let sheet: Vec<u8> = book.chunks(YEAR_BYTES).step_by(200).take(20).flatten().copied().collect();
     let mut buffer = [0; YEAR_BYTES];
 
     println!("| Work | Library, ns | Ours, ns | Ratio |");
@@ -76,6 +78,25 @@ fn main() {
         |_| sum_of_part(bhromilun::seek_year(hidden(&book[..]), hidden(2_000))),
         |_| sum_of_part(fast::seek_year(hidden(&book[..]), hidden(2_000))),
     );
+    for (name, n) in [
+        ("seeking in it and a sheet of 20 years, a year of the sheet", 1_800),
+        ("seeking in it and a sheet of 20 years, a year of the book alone", 2_000),
+    ] {
+        row(
+            name,
+            20,
+            |_| {
+                let (sheet, book) = (hidden(&sheet[..]), hidden(&book[..]));
+                let year = bhromilun::corrected_year(sheet, book, hidden(n));
+                sum_of_part(year.map(|year| year.part))
+            },
+            |_| {
+                let (sheet, book) = (hidden(&sheet[..]), hidden(&book[..]));
+                let year = fast::corrected_year(sheet, book, hidden(n));
+                sum_of_part(year.map(|year| year.part))
+            },
+        );
+    }
     // The buffer is lent to the one and then to the other.
     let lent = std::cell::RefCell::new(&mut buffer[..]);
     row(

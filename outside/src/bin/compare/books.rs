@@ -86,6 +86,12 @@ pub struct Record {
     length: usize,
 }
 
+/// The part of a year in the book of all years.
+pub fn year_in(shelf: &[u8], n: i64) -> &[u8] {
+    let start = (n + 2_000) as usize * YEAR_BYTES;
+    &shelf[start..start + YEAR_BYTES]
+}
+
 /// The records of a sound year.
 pub fn records(year: &[u8]) -> impl Iterator<Item = Record> + '_ {
     (0..25).map(move |place| {
@@ -158,6 +164,19 @@ pub fn damage_bytes(sequence: &mut Sequence, bytes: &mut Vec<u8>) {
     }
 }
 
+/// None to three changes, some among the records, and some among the bytes that they make.
+pub fn damage(sequence: &mut Sequence, records: &mut Vec<Record>, bytes: &mut Vec<u8>) {
+    let among_records = sequence.below(3);
+    for _ in 0..among_records {
+        damage_records(sequence, records);
+    }
+    put_together(records, bytes);
+    let among_bytes = sequence.below(if among_records == 2 { 2 } else { 3 });
+    for _ in 0..among_bytes {
+        damage_bytes(sequence, bytes);
+    }
+}
+
 /// Books of one to three years, mostly in order, with none to three changes; some stay sound.
 pub fn damaged_books(tally: &mut Tally, shelf: &[u8]) {
     let mut sequence = Sequence(1742);
@@ -170,19 +189,10 @@ pub fn damaged_books(tally: &mut Tally, shelf: &[u8]) {
         }
         let years = &years[..1 + sequence.below(3)];
         list.clear();
-        for n in years {
-            let start = (n + 2_000) as usize * YEAR_BYTES;
-            list.extend(records(&shelf[start..start + YEAR_BYTES]));
+        for &n in years {
+            list.extend(records(year_in(shelf, n)));
         }
-        let among_records = sequence.below(3);
-        for _ in 0..among_records {
-            damage_records(&mut sequence, &mut list);
-        }
-        put_together(&list, &mut bytes);
-        let among_bytes = sequence.below(if among_records == 2 { 2 } else { 3 });
-        for _ in 0..among_bytes {
-            damage_bytes(&mut sequence, &mut bytes);
-        }
+        damage(&mut sequence, &mut list, &mut bytes);
         let sought = match sequence.below(8) {
             0 => sequence.one_of(&[i64::MIN, -2_001, 2_001, i64::MAX]),
             1 => sequence.year(),

@@ -2,6 +2,7 @@
 //! call: its number, all that it stores, and what it must leave as it was.
 
 mod books;
+mod corrections;
 mod odd;
 mod reckoned;
 mod results;
@@ -27,6 +28,11 @@ fn main() {
     books::whole_book(&mut tally, &shelf);
     books::cut_books(&mut tally, &shelf);
     books::damaged_books(&mut tally, &shelf);
+    corrections::odd_pairs(&mut tally, &shelf);
+    corrections::odd_fields(&mut tally, &shelf);
+    corrections::cut_pairs(&mut tally, &shelf);
+    corrections::whole_books(&mut tally, &shelf);
+    corrections::damaged_pairs(&mut tally, &shelf);
     values::read_years(&mut tally, &shelf);
     values::odd_years_read(&mut tally, &shelf);
     values::damaged_years_read(&mut tally, &shelf);

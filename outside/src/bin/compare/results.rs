@@ -41,6 +41,11 @@ pub fn results(tally: &mut Tally, shelf: &[u8]) {
             let part = &shelf[..length];
             let ours = book::seek_year(part, n);
             case(tally, "sought year's result", bhromilun::seek_year(part, n), ours);
+            for sheet in [&[][..], &shelf[..YEAR_BYTES], part] {
+                let ours = book::corrected_year(sheet, part, n);
+                let answer = bhromilun::corrected_year(sheet, part, n);
+                case(tally, "corrected year's result", answer, ours);
+            }
             let ours = book::check_book(part);
             case(tally, "checked book's result", bhromilun::check_book(part), ours);
             let ours = book::read_year(part).map(|(year, end)| (year, part.len() - end));

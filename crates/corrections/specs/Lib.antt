@@ -1,0 +1,3 @@
+pub mod Corrections
+pub mod Said
+pub mod Parts
