@@ -35,11 +35,12 @@ PROGRAMS = {
 FIRST_LINE_CASES = [("newline_first", b"\n0\n"), ("nothing", b""), ("refused", b"2001")]
 WHOLE = {
     "solstice": [("many_lines", many_lines()), ("newline", b"\n"), ("newline_first", b"\n0\n"), ("nothing", b"")],
-    "termbook": FIRST_LINE_CASES,
+    # a term whose minute rounds to 1,440, here and below
+    "termbook": FIRST_LINE_CASES + [("carried", b"-255\n")],
     # the limits of N, both sides of the year 1, and the two mansions whose order was once the other way round
     "ring": FIRST_LINE_CASES
     + [("first_year", b"-2000\n"), ("last_year", b"2000\n"), ("before_year_1", b"-1684\n"), ("year_1", b"-1683\n")]
-    + [("mansion_19", b"326\n"), ("mansion_20", b"327\n")],
+    + [("mansion_19", b"326\n"), ("mansion_20", b"327\n"), ("carried", b"-255\n")],
 }
 
 # Each input with the places where it pauses.

@@ -1,4 +1,4 @@
-"""Reckons the expected outputs of the test programs from document 01's rules alone.
+"""Reckons the expected outputs of the test programs from the rules of documents 01 and 02 alone.
 
 It shares nothing with the Rattle sources: no code, no table. The sines and tangents are worked out here
 from their series, the numbers are Python's unbounded ones, and each rule is the document's own formula.
@@ -10,7 +10,9 @@ from their series, the numbers are Python's unbounded ones, and each rule is the
 
 import re
 import sys
+from bisect import bisect_right
 from decimal import ROUND_HALF_UP, Decimal, getcontext
+from fractions import Fraction
 from pathlib import Path
 
 ROOT_FOLDER = Path(__file__).resolve().parent.parent
@@ -165,7 +167,7 @@ def height_base_tangent(anomaly):
 def angle(tangent):
     if tangent > TANGENTS[-1]:
         raise Refused(5)
-    minute = max(m for m, entry in enumerate(TANGENTS) if entry <= tangent)
+    minute = bisect_right(TANGENTS, tangent) - 1  # the last entry not above it
     rest = tangent - TANGENTS[minute]
     if rest == 0:  # the last entry has no step after it
         return minute * MINUTE
@@ -204,25 +206,54 @@ def true_place(n, day):
 # Terms and local times.
 
 
-def term_values(n, k):
-    """Day, minute and count."""
+def way_to(n, k):
+    """Demand 3's day, the units from its midnight's place to the mark, those to the next midnight's place, and the count."""
     require_year(n)
     if k > 23:
         raise Refused(3)
     mark = 15 * k * DEGREE
     start = (mark - root(n)) // DAILY_MOTION - 3
-    past = start
-    while run_on(n, past) <= mark:
-        past += 1
-    day, count = past - 1, past - start + 1
-    place, next_place = run_on(n, day), run_on(n, day + 1)
-    minute = 1440 * (mark - place) // (next_place - place)
-    assert place <= mark < next_place and 2 <= count <= 8 and 0 <= minute <= 1439, (n, k)
-    return day, minute, count
+    places = [run_on(n, start)]
+    while places[-1] <= mark:
+        places.append(run_on(n, start + len(places)))
+    assert 2 <= len(places) <= 8, (n, k)
+    place, next_place = places[-2:]
+    return start + len(places) - 2, mark - place, next_place - place, len(places)
+
+
+def rounded_minute(gone, step):
+    """Document 02, K2: half or more rounds up. It may be 1,440."""
+    return half_up(1440 * gone, step)
+
+
+def carried(day, minute):
+    """Minute 1,440 is minute 0 of the next day."""
+    return (day + 1, 0) if minute == 1440 else (day, minute)
+
+
+def term_values(n, k):
+    """The printed day and minute, and the count."""
+    day, gone, step, count = way_to(n, k)
+    return *carried(day, rounded_minute(gone, step)), count
+
+
+def cut_minute(gone, step):
+    """Document 01's minute, cut off."""
+    return 1440 * gone // step
+
+
+def crossing_values(n, k):
+    """Demand 3's day, and the minute cut off."""
+    day, gone, step, _ = way_to(n, k)
+    return day, cut_minute(gone, step)
 
 
 def term(n, k):
     return "day {} minute {} count {}".format(*term_values(n, k))
+
+
+def crossing(n, k):
+    return "day {} minute {}".format(*crossing_values(n, k))
 
 
 def clock_seconds(longitude):
@@ -316,6 +347,25 @@ def assert_compared_figures():
         assert (day_name(n), *clock_of_solstice(n)[:2], mansion(n)) == sample
 
 
+def assert_rounded_terms():
+    """All 96,024 terms: how many rounding moves and carries, and which of them ROUNDED_TERMS are."""
+    moved, carries, halves = 0, [], []
+    for n in range(-2000, 2001):
+        for k in range(24):
+            _, gone, step, _ = way_to(n, k)
+            cut, rounded = cut_minute(gone, step), rounded_minute(gone, step)
+            assert 0 <= cut <= 1439 and rounded - cut in (0, 1), (n, k)
+            moved += rounded - cut
+            if rounded == 1440:
+                carries.append((n, k))
+            halves.append((Fraction(1440 * gone, step) - cut - Fraction(1, 2), (n, k)))
+    assert (moved, len(carries)) == (47_904, 26)
+    by_term = sorted(carries, key=lambda term: term[1])
+    past, under = min(half for half in halves if half[0] >= 0), max(half for half in halves if half[0] < 0)
+    assert past[0] > 0
+    assert list(ROUNDED_TERMS.values()) == [by_term[0], by_term[-1], past[1], under[1]]
+
+
 # The parts of the expected files, line by line.
 
 
@@ -365,13 +415,24 @@ def place_lines():
         yield f"place {n} {day}: mean {mean} true {true} run-on {on}"
 
 
+# Where rounding shows, year and term; assert_rounded_terms holds each to its name.
+ROUNDED_TERMS = {
+    "carried-first": (-255, 0),  # the least and the greatest k of those whose minute rounds to 1,440
+    "carried-last": (-1556, 22),
+    "nearest-past-half": (-104, 5),  # no term is exactly at half a minute
+    "nearest-under-half": (527, 23),
+}
+
+
 def term_lines():
-    for n in EVERY_TWENTIETH_YEAR:
-        for k in range(24):
-            yield f"term {n} {k}: {term(n, k)}"  # a refusal here would be an error, and stops the program
+    twentieth = [(n, k) for n in EVERY_TWENTIETH_YEAR for k in range(24)]
+    for n, k in [*twentieth, *ROUNDED_TERMS.values()]:  # a refusal here would be an error, and stops the program
+        yield f"term {n} {k}: {term(n, k)}"
+        yield f"crossing {n} {k}: {crossing(n, k)}"
     refusals = [(-2001, 0), (2001, 23), (-2001, 24), (2001, 24), (0, 24), (0, 2**64 - 1), (-2000, 24), (2000, 24)]
     for n, k in [*refusals, (LEAST, 0), (GREATEST, 24)]:
         yield f"term {n} {k}: {answer(term, n, k)}"
+        yield f"crossing {n} {k}: {answer(crossing, n, k)}"
 
 
 def year_call(n, room):
@@ -492,6 +553,7 @@ def main(arguments):
     assert_table_rules()
     assert_marked_table()
     assert_compared_figures()
+    assert_rounded_terms()
     files = list(expected_files())
     differing = stray_cases(files) if arguments else []
     for path, expected in files:

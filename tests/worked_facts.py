@@ -111,6 +111,24 @@ def term(n, k, e=OWN):
     return f"termAnswer {e} {given(n)} {k} ≡ {answered(term_text, reckoned, e, expected.term_values, n, k)}"
 
 
+def crossing_text(values):
+    return "(theCrossing {} {:_})".format(given(values[0]), values[1])
+
+
+def crossing(n, k, e=OWN):
+    return f"crossingAnswer {e} {given(n)} {k} ≡ {answered(crossing_text, reckoned, e, expected.crossing_values, n, k)}"
+
+
+def minutes(gone, step):
+    """Of a mark so many units past a midnight that has so many to the next: cut off, and rounded."""
+    return f"Minutes {gone:_} {step:_} {expected.cut_minute(gone, step):_} {expected.rounded_minute(gone, step):_}"
+
+
+def carried(day, minute):
+    to_day, to_minute = expected.carried(day, minute)
+    return f"Carried {given(day)} {minute:_} {given(to_day)} {to_minute:_}"
+
+
 def fill_refused(n, room, e=OWN):
     return f"refusalIn (fillAnswer {e} {given(n)} {room}) ≡ {number_of(reckoned, e, fill, n, room)}"
 
@@ -334,10 +352,26 @@ def clock(name, part, fraction):
 
 
 def terms():
-    for name, n, k in (("first", 0, 0), ("least", -2000, 0), ("most", 2000, 23), ("backward", -676, 5), ("longest", -1900, 16)):
-        day, minute, count = expected.term_values(n, k)
+    named = {"first": (0, 0), "least": (-2000, 0), "most": (2000, 23), "backward": (-676, 5), "longest": (-1900, 16)}
+    for name, (n, k) in {**named, **expected.ROUNDED_TERMS}.items():
         start = (15 * k * DEGREE - expected.root(n)) // expected.DAILY_MOTION - 3
-        yield name, f"Worked {given(n)} {k} {given(start)} {count} {given(day)} {minute:_}"
+        printed_day, printed_minute, count = expected.term_values(n, k)
+        day, cut = expected.crossing_values(n, k)
+        yield name, f"Worked {given(n)} {k} {given(start)} {count} {given(day)} {cut:_} {given(printed_day)} {printed_minute:_}"
+    # a day of 2,880 units has two in a minute, so that every odd one is half a minute
+    yield "at-midnight", minutes(0, 2880)
+    yield "at-half", minutes(1, 2880)
+    yield "under-half", minutes(1, 2881)
+    yield "past-half", minutes(1, 2879)
+    yield "under-one", minutes(1, 1441)
+    yield "at-one-and-a-half", minutes(3, 2880)
+    yield "at-the-last", minutes(2878, 2880)
+    yield "at-half-past-the-last", minutes(2879, 2880)
+    yield "stays", carried(5, 1439)
+    yield "carries", carried(5, 1440)
+    yield "carries-to-day-0", carried(-1, 1440)
+    yield "carries-to-day-370", carried(369, 1440)
+    yield "stays-at-0", carried(5, 0)
 
 
 def orders():
@@ -359,6 +393,11 @@ def orders():
     yield "term-3-5", term(0, 24, WIDE)
     yield "term-5", term(0, 6, WIDE)
     yield "term-5-at-the-last-midnight", term(-1900, 16, "189_400")
+    yield "crossing-1-3", crossing(2001, 24)
+    yield "crossing-1-5", crossing(-2001, 6, WIDE)
+    yield "crossing-3-5", crossing(0, 24, WIDE)
+    yield "crossing-5", crossing(0, 6, WIDE)
+    yield "crossing-5-at-the-last-midnight", crossing(-1900, 16, "189_400")
     yield "fill-1-5", fill_refused(2001, 24, WIDE)
     yield "fill-6-5", fill_refused(0, 23, WIDE)
     yield "fill-5", fill_refused(0, 24, WIDE)
@@ -407,6 +446,8 @@ def limits():
         yield f"{name}-above", place(0, 371)
     yield "term-most", term(0, 23)
     yield "term-above", term(0, 24)
+    yield "crossing-most", crossing(0, 23)
+    yield "crossing-above", crossing(0, 24)
     yield "local-day-below", local(-5, 0, 0)
     yield "local-day-least", local(-4, 0, 0)
     yield "local-day-most", local(370, 0, 0)
@@ -531,6 +572,10 @@ def books():
     yield "terms = " + " ∷ ".join([*(term_text(value)[1:-1] for value in values), "[]"])
     yield "worked-terms", "fillAnswer epicycles (pos 0) 24 ≡ value terms"
     yield "worked-year", "workedAnswer epicycles (pos 0) (replicate 149 0 ++ (7 ∷ 8 ∷ [])) ≡ value (year ++ (7 ∷ 8 ∷ []))"
+    # a year whose first term is carried, in the list and in the book
+    n, _ = expected.ROUNDED_TERMS["carried-first"]
+    yield "carried-terms", f"part (take 1) (fillAnswer epicycles {given(n)} 24) ≡ value ({term_text(expected.term_values(n, 0))[1:-1]} ∷ [])"
+    yield "carried-year", f"part (take 11) (workedAnswer epicycles {given(n)} (replicate 149 0)) ≡ value ({listed(year_bytes(n)[:11])})"
     yield "written", f"writeAnswer (bookYear ({head}) terms) (replicate 149 0 ++ (7 ∷ 8 ∷ [])) ≡ value (year ++ (7 ∷ 8 ∷ []))"
     yield "head-read", f"headRead (readAnswer year 24) year ≡ {head}"
     yield "terms-read", "termsRead (readAnswer year 24) year ≡ value (map uncounted terms)"

@@ -60,12 +60,20 @@ uint64_t bhromilun_mean_place(int64_t n, int64_t day, uint64_t *place);
    Stores: place on 0. */
 uint64_t bhromilun_true_place(int64_t n, int64_t day, uint64_t *place);
 
-/* Day and minute of term k (0 to 23), and the number of midnights visited to find them. Refuses 1, 3.
+/* Day and minute of term k (0 to 23) as the almanac prints them, and the number of midnights visited to
+   find them. Half a minute or more rounds up, and what would be minute 1,440 is minute 0 of the next day.
+   Refuses 1, 3.
    Stores: all three on 0. */
 uint64_t bhromilun_term(int64_t n, uint64_t k, int64_t *day, uint64_t *minute, uint64_t *count);
 
-/* The year call: day, minute and count of each of the 24 terms, term 0 first. It is quicker than 24
-   calls of the one above, which lays out its tables each time. Refuses 1.
+/* The sun's crossing of the mark of term k (0 to 23): the day with the mark between its midnight and the
+   next, and the minute cut off. What bhromilun_term prints may be a minute later, and so on the next day.
+   Refuses 1, 3.
+   Stores: both on 0. */
+uint64_t bhromilun_crossing(int64_t n, uint64_t k, int64_t *day, uint64_t *minute);
+
+/* The year call: day, minute and count of each of the 24 terms as they are printed, term 0 first. It is
+   quicker than 24 calls of bhromilun_term, which lays out its tables each time. Refuses 1.
    Stores: all three arrays on 0. */
 uint64_t bhromilun_terms(int64_t n, int64_t days[24], uint64_t minutes[24], uint64_t counts[24]);
 

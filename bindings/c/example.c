@@ -1,6 +1,7 @@
 /* Prints the 24 terms of the epoch year 1684 with the number of each day's name and the time at the
-   capital, what its term book reads as, sound and damaged, which book the year comes from where a sheet
-   of corrections has it too, and what a year out of range is answered.
+   capital, a term of another year that is printed a day after the sun's crossing, what the epoch year's
+   term book reads as, sound and damaged, which book the year comes from where a sheet of corrections has
+   it too, and what a year out of range is answered.
    ../rust/examples/year.rs prints the same. */
 
 #include <inttypes.h>
@@ -33,6 +34,18 @@ int main(void)
         printf("term %2d: day %3" PRId64 ", name %2" PRIu64 ", %02" PRIu64 ":%02" PRIu64 "\n",
                k, days[k], name, minutes[k] / 60, minutes[k] % 60);
     }
+
+    int64_t day, printed_day;
+    uint64_t minute, printed_minute, count;
+    refused = bhromilun_crossing(-255, 0, &day, &minute);
+    if (refused == 0)
+        refused = bhromilun_term(-255, 0, &printed_day, &printed_minute, &count);
+    if (refused != 0) {
+        printf("refused %" PRIu64 "\n", refused);
+        return 1;
+    }
+    printf("crossing: day %" PRId64 ", minute %" PRIu64 ", printed day %" PRId64 ", minute %" PRIu64 "\n",
+           day, minute, printed_day, printed_minute);
 
     uint8_t book[149];
     int64_t read;

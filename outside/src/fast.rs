@@ -156,11 +156,7 @@ impl Year {
                 place = next;
             }
         }
-        Term {
-            day,
-            minute: minute_between(place, mark, next),
-            count: (day + 2 - (mean_day - 3)) as u64,
-        }
+        printed(day, mark - place, next - place, (day + 2 - (mean_day - 3)) as u64)
     }
 
     /// The same term by the document's own walk from three days before, for the benchmark: so much
@@ -174,8 +170,7 @@ impl Year {
         loop {
             let next = self.place(day + 1);
             if next > mark {
-                let count = (day + 2 - start) as u64;
-                return Term { day, minute: minute_between(place, mark, next), count };
+                return printed(day, mark - place, next - place, (day + 2 - start) as u64);
             }
             day += 1;
             place = next;
@@ -183,9 +178,13 @@ impl Year {
     }
 }
 
+/// A term `gone` units past the midnight of `day`, of `step` to the next: half a minute or more rounds up,
+/// and minute 1,440 is minute 0 of the next day.
 #[inline]
-fn minute_between(place: i64, mark: i64, next: i64) -> u64 {
-    1_440 * (mark - place) as u64 / (next - place) as u64
+fn printed(day: i64, gone: i64, step: i64, count: u64) -> Term {
+    let minute = (1_440 * gone as u64 + step as u64 / 2) / step as u64;
+    let carry = minute / 1_440;
+    Term { day: day + carry as i64, minute: minute - 1_440 * carry, count }
 }
 
 fn day_in_range(day: i64) -> Result<(), Refusal> {

@@ -1,4 +1,4 @@
-//! Document 01 and request K1 of document 02 a second time, from outside: `reckoning` follows their
+//! Document 01 and requests K1 and K2 of document 02 a second time, from outside: `reckoning` follows their
 //! sentences and shares nothing with the library's sources or tables; `fast` is the reckoning written
 //! for speed, for the benchmark. The types below carry answers and hold no rule; they have the names
 //! and fields of the bindings', but are not those. Only the programs in `bin` call the library.
@@ -56,7 +56,7 @@ pub struct Solstice {
     pub mansion: u64,
 }
 
-/// A term's day and minute, and the number of midnights visited to find it.
+/// A term's printed day and minute, and the number of midnights visited to find it.
 #[derive(Clone, Copy, Debug, Default, PartialEq, Eq)]
 pub struct Term {
     pub day: i64,

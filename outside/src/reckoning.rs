@@ -1,5 +1,6 @@
-//! Document 01's reckoning, sentence by sentence. All of it is in 128-bit numbers, so that no product
-//! comes near its limit once the given values are in range; refusals stand in the document's order.
+//! Document 01's reckoning and what document 02 changed in it, sentence by sentence. All of it is in
+//! 128-bit numbers, so that no product comes near its limit once the given values are in range; refusals
+//! stand in the document's order.
 
 pub mod book;
 pub mod tables;
@@ -151,7 +152,16 @@ pub fn true_place(n: i64, day: i64) -> Result<u64, Refusal> {
     Ok(run_on_place(n, i128::from(day))?.rem_euclid(CIRCLE) as u64)
 }
 
-pub fn term(n: i64, k: u64) -> Result<Term, Refusal> {
+/// What the walk finds: demand 3's day, the units from its midnight to the mark and to the next midnight,
+/// and the midnights visited.
+struct Walked {
+    day: i128,
+    gone: i128,
+    step: i128,
+    count: i128,
+}
+
+fn walk(n: i64, k: u64) -> Result<Walked, Refusal> {
     year_in_range(n)?;
     if k > 23 {
         return Err(Refusal::number(3));
@@ -167,15 +177,26 @@ pub fn term(n: i64, k: u64) -> Result<Term, Refusal> {
             // Midnights visited from the start to the first one past the mark, both included.
             let count = day + 1 - start + 1;
             assert!(count <= 8, "year {n}, term {k}: the walk runs out");
-            return Ok(Term {
-                day: day as i64,
-                minute: (1_440 * (mark - place) / (next - place)) as u64,
-                count: count as u64,
-            });
+            return Ok(Walked { day, gone: mark - place, step: next - place, count });
         }
         day += 1;
         place = next;
     }
+}
+
+/// The term as the almanac has it (request K2): half a minute or more rounds up, and where that gives
+/// 1,440 it is minute 0 of the next day.
+pub fn term(n: i64, k: u64) -> Result<Term, Refusal> {
+    let Walked { day, gone, step, count } = walk(n, k)?;
+    let minute = half_up(1_440 * gone, step);
+    let (day, minute) = if minute == 1_440 { (day + 1, 0) } else { (day, minute) };
+    Ok(Term { day: day as i64, minute: minute as u64, count: count as u64 })
+}
+
+/// Demand 3's day and document 01's minute, cut off.
+pub fn crossing(n: i64, k: u64) -> Result<Moment, Refusal> {
+    let Walked { day, gone, step, .. } = walk(n, k)?;
+    Ok(Moment { day: day as i64, minute: (1_440 * gone / step) as u64 })
 }
 
 /// Clock seconds for a longitude in seconds of arc: fifteen make one, half or more up on the size.
@@ -310,6 +331,34 @@ mod tests {
         assert_eq!(local_time(371, 0, 648_001), Err(Refusal::number(2)));
         assert_eq!(local_time(-4, 0, -648_000), Ok(Moment { day: -5, minute: 720 }));
         assert_eq!(local_time(370, 1_439, 648_000), Ok(Moment { day: 371, minute: 719 }));
+    }
+
+    /// Request K2: the print is the crossing rounded, so the same minute or the next, and a day later only
+    /// at minute 0.
+    #[test]
+    fn printed_and_crossed() {
+        let printed = |n, k| term(n, k).map(|Term { day, minute, .. }| Moment { day, minute });
+        let mut carried = 0;
+        for n in -2_000..=2_000 {
+            for k in 0..24 {
+                let (print, crossed) = (printed(n, k).unwrap(), crossing(n, k).unwrap());
+                assert!(print.minute <= 1_439 && crossed.minute <= 1_439);
+                let later = (print.day - crossed.day) * 1_440 + print.minute as i64;
+                assert!([0, 1].contains(&(later - crossed.minute as i64)), "{n}, term {k}");
+                if print.day != crossed.day {
+                    assert_eq!((print.day, print.minute), (crossed.day + 1, 0), "{n}, term {k}");
+                    carried += 1;
+                }
+            }
+        }
+        assert_eq!(carried, 26);
+        assert_eq!(printed(-255, 0), Ok(Moment { day: 0, minute: 0 }));
+        assert_eq!(crossing(-255, 0), Ok(Moment { day: -1, minute: 1_439 }));
+        for (n, k) in [(0, 24), (2_001, 24), (-2_001, 0)] {
+            assert_eq!(printed(n, k).unwrap_err(), crossing(n, k).unwrap_err());
+        }
+        assert_eq!(crossing(0, 24), Err(Refusal::number(3)));
+        assert_eq!(crossing(2_001, 24), Err(Refusal::number(1)));
     }
 
     /// The document's other promise of the run-on places, on every seventh year.

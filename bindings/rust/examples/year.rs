@@ -1,6 +1,7 @@
 //! Prints the 24 terms of the epoch year 1684 with the number of each day's name and the time at the
-//! capital, what its term book reads as, sound and damaged, which book the year comes from where a sheet
-//! of corrections has it too, and what a year out of range is answered.
+//! capital, a term of another year that is printed a day after the sun's crossing, what the epoch year's
+//! term book reads as, sound and damaged, which book the year comes from where a sheet of corrections has
+//! it too, and what a year out of range is answered.
 //! ../../c/example.c prints the same.
 
 use bhromilun::Refusal;
@@ -15,6 +16,9 @@ fn main() -> Result<(), Refusal> {
         let (hour, minute) = (term.minute / 60, term.minute % 60);
         println!("term {k:2}: day {:3}, name {day_name:2}, {hour:02}:{minute:02}", term.day);
     }
+    let (crossing, term) = (bhromilun::crossing(-255, 0)?, bhromilun::term(-255, 0)?);
+    print!("crossing: day {}, minute {}, ", crossing.day, crossing.minute);
+    println!("printed day {}, minute {}", term.day, term.minute);
     let mut book = [0; 149];
     bhromilun::write_year(n, &mut book)?;
     let (year, rest) = bhromilun::read_year(&book)?;

@@ -147,7 +147,7 @@ pub struct Solstice {
     pub mansion: u64,
 }
 
-/// A term of a year.
+/// A term of a year, as the almanac prints it.
 #[derive(Clone, Copy, Debug, Default, PartialEq, Eq)]
 pub struct Term {
     pub day: i64,
@@ -242,10 +242,10 @@ pub fn mean_place(n: i64, day: i64) -> Result<u64, Refusal> {
 /// Refuses 1, 2.
 ///
 /// ```
-/// let term = bhromilun::term(0, 6)?; // at 90 degrees
+/// let crossing = bhromilun::crossing(0, 6)?; // at 90 degrees
 /// let mark = 90 * 3_600 * 60_000_000;
-/// assert!(bhromilun::true_place(0, term.day)? <= mark);
-/// assert!(mark < bhromilun::true_place(0, term.day + 1)?);
+/// assert!(bhromilun::true_place(0, crossing.day)? <= mark);
+/// assert!(mark < bhromilun::true_place(0, crossing.day + 1)?);
 /// # Ok::<(), bhromilun::Refusal>(())
 /// ```
 pub fn true_place(n: i64, day: i64) -> Result<u64, Refusal> {
@@ -254,7 +254,8 @@ pub fn true_place(n: i64, day: i64) -> Result<u64, Refusal> {
     answered(number, place)
 }
 
-/// Term `k` (0 to 23) of the year `n`.
+/// Term `k` (0 to 23) of the year `n` as the almanac prints it: half a minute or more rounds up, and what
+/// would be minute 1,440 is minute 0 of the next day.
 ///
 /// Refuses 1, 3.
 ///
@@ -270,14 +271,33 @@ pub fn term(n: i64, k: u64) -> Result<Term, Refusal> {
     answered(number, term)
 }
 
-/// The 24 terms of the year `n`, term 0 first: quicker than 24 calls of [`term`].
+/// The sun's crossing of the mark of term `k` (0 to 23) in the year `n`: the day with the mark between its
+/// midnight and the next, and the minute cut off. What is printed, [`term`], may be a minute later, and so on
+/// the next day.
+///
+/// Refuses 1, 3.
+///
+/// ```
+/// let (crossing, term) = (bhromilun::crossing(-255, 0)?, bhromilun::term(-255, 0)?);
+/// assert_eq!((crossing.day, crossing.minute), (-1, 1_439)); // 11 seconds before midnight
+/// assert_eq!((term.day, term.minute), (0, 0));
+/// assert_eq!(bhromilun::crossing(0, 24).unwrap_err().number, 3);
+/// # Ok::<(), bhromilun::Refusal>(())
+/// ```
+pub fn crossing(n: i64, k: u64) -> Result<Moment, Refusal> {
+    let mut crossing = Moment::default();
+    let number = plain::crossing(n, k, &mut crossing.day, &mut crossing.minute);
+    answered(number, crossing)
+}
+
+/// The 24 terms of the year `n` as the almanac prints them, term 0 first: quicker than 24 calls of [`term`].
 ///
 /// Refuses 1.
 ///
 /// ```
 /// let terms = bhromilun::terms(0)?;
 /// assert_eq!(terms[0], bhromilun::term(0, 0)?);
-/// assert_eq!((terms[23].day, terms[23].minute), (350, 653));
+/// assert_eq!((terms[23].day, terms[23].minute), (350, 654));
 /// # Ok::<(), bhromilun::Refusal>(())
 /// ```
 pub fn terms(n: i64) -> Result<[Term; 24], Refusal> {

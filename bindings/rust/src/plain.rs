@@ -23,6 +23,7 @@ mod library {
             minute: &mut u64,
             count: &mut u64,
         ) -> u64;
+        pub fn bhromilun_crossing(n: i64, k: u64, day: &mut i64, minute: &mut u64) -> u64;
         pub fn bhromilun_terms(
             n: i64,
             days: &mut [i64; 24],
@@ -103,6 +104,11 @@ pub fn true_place(n: i64, day: i64, place: &mut u64) -> u64 {
 /// See [`term`](crate::term).
 pub fn term(n: i64, k: u64, day: &mut i64, minute: &mut u64, count: &mut u64) -> u64 {
     unsafe { library::bhromilun_term(n, k, day, minute, count) }
+}
+
+/// See [`crossing`](crate::crossing).
+pub fn crossing(n: i64, k: u64, day: &mut i64, minute: &mut u64) -> u64 {
+    unsafe { library::bhromilun_crossing(n, k, day, minute) }
 }
 
 /// See [`terms`](crate::terms).

@@ -6,6 +6,7 @@ use Rattle.bhromilun.proofs.reckoning.bhromilun_equation as equation
 use Rattle.bhromilun.proofs.reckoning.bhromilun_mean_place as mean-place
 use Rattle.bhromilun.proofs.reckoning.bhromilun_true_place as true-place
 use Rattle.bhromilun.proofs.reckoning.bhromilun_term as term
+use Rattle.bhromilun.proofs.reckoning.bhromilun_crossing as crossing
 use Rattle.bhromilun.proofs.reckoning.bhromilun_terms as terms
 use Rattle.bhromilun.proofs.reckoning.bhromilun_local_time as local-time
 use Rattle.bhromilun.proofs.books.bhromilun_write_year as write-year
@@ -41,6 +42,10 @@ bhromilun-true-place-held M 𝓤 H A mem run κs a =
 pub bhromilun-term-held : Held term.ended (λ M. term.clauses {M = M})
 bhromilun-term-held M 𝓤 H A mem run κs a =
     by-facts 𝓤 (λ z z′ w w′ p q. (one (p .number) (q .number), refl and refl and one (p .dayOfTerm) (q .dayOfTerm) and one (p .minuteOfTerm) (q .minuteOfTerm) and one (p .countOfTerm) (q .countOfTerm) and refl))
+
+pub bhromilun-crossing-held : Held crossing.ended (λ M. crossing.clauses {M = M})
+bhromilun-crossing-held M 𝓤 H A mem run κs a =
+    by-facts 𝓤 (λ z z′ w w′ p q. (one (p .number) (q .number), refl and refl and one (p .dayOfCrossing) (q .dayOfCrossing) and one (p .minuteOfCrossing) (q .minuteOfCrossing) and refl))
 
 pub bhromilun-terms-held : Held terms.ended (λ M. terms.clauses {M = M})
 bhromilun-terms-held M 𝓤 H A mem run κs a =

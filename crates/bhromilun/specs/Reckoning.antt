@@ -4,7 +4,7 @@ use mathlib.Core.List.{List, map}
 use Prim.Native.Nat.{ℕ}
 use lib.IntN.{ℤ}
 use Rattle.reasoning.specs.Answer.{Answer, value, refused, refusalIn}
-use Rattle.law.specs.Document.{YearValues, TermValues, LocalValues}
+use Rattle.law.specs.Document.{YearValues, TermValues, CrossingValues, LocalValues}
 use Rattle.units.specs.Said.{numberOf}
 use Rattle.sun.specs.declared.worked_year.Listed.{Listed}
 use Rattle.sun.specs.declared.worked_year.Listed.the-variants as listed
@@ -32,6 +32,11 @@ pub record ToldTerm (answer : Answer TermValues) (r : ℕ) (day : Lent ℤ) (min
   pub dayOfTerm : Stored answer (λ v. v .dayOfTerm) day
   pub minuteOfTerm : Stored answer (λ v. v .minuteOfTerm) minute
   pub countOfTerm : Stored answer (λ v. v .countOfTerm) count
+
+pub record ToldCrossing (answer : Answer CrossingValues) (r : ℕ) (day : Lent ℤ) (minute : Lent ℕ) : Type 0 where
+  pub number : r ≡ refusalIn answer
+  pub dayOfCrossing : Stored answer (λ v. v .dayOfCrossing) day
+  pub minuteOfCrossing : Stored answer (λ v. v .minuteOfCrossing) minute
 
 pub record ToldTerms (answer : Answer (List TermValues)) (r : ℕ) (days : Lent (List ℤ)) (minutes counts : Lent (List ℕ)) : Type 0 where
   pub number : r ≡ refusalIn answer

@@ -1,16 +1,17 @@
 // The year, places, terms and local time.
 use crate::columns::store_columns;
 use local::LocalAnswer;
+use sun::CrossingAnswer;
 use sun::Listed;
 use sun::TermAnswer;
 use sun::YearAnswer;
 use units::ArcSeconds;
 use units::Number;
 use units::Signed;
-ghost use Rattle.law.specs.Document.{epicycles, yearAnswer, equationAnswer, meanAnswer, trueAnswer, termAnswer, termsAnswer, localAnswer};
+ghost use Rattle.law.specs.Document.{epicycles, yearAnswer, equationAnswer, meanAnswer, trueAnswer, termAnswer, crossingAnswer, termsAnswer, localAnswer};
 ghost use Rattle.units.specs.Said.{saidNumber};
 ghost use Rattle.bhromilun.specs.Told.{Told, lent};
-ghost use Rattle.bhromilun.specs.Reckoning.{ToldYear, ToldTerm, ToldTerms, ToldLocal};
+ghost use Rattle.bhromilun.specs.Reckoning.{ToldYear, ToldTerm, ToldCrossing, ToldTerms, ToldLocal};
 
 // The mean solstice of a year: its day name, its fraction of a day in thousand-millionths, and the duty mansion.
 #[no_mangle]
@@ -76,7 +77,7 @@ pub extern "C" fn bhromilun_true_place(n: i64, day: i64, place: &mut u64) -> u64
     tell_place(sun::true_place(n, day), place)
 }
 
-// The day and minute of a year's term k, and the midnights visited to find them.
+// The day and minute of a year's term k as they are printed, and the midnights visited to find them.
 #[no_mangle]
 pub extern "C" fn bhromilun_term(
     n: i64,
@@ -99,7 +100,23 @@ pub extern "C" fn bhromilun_term(
     }
 }
 
-// The year call: the day and minute of each of a year's 24 terms, and the midnights visited to find them.
+// The day and minute of the sun's crossing of term k's mark, the minute cut off and not rounded.
+#[no_mangle]
+pub extern "C" fn bhromilun_crossing(n: i64, k: u64, day: &mut i64, minute: &mut u64) -> u64
+    ensures { λ r. ⌜ ToldCrossing (crossingAnswer epicycles n k) r (lent day) (lent minute) ⌝ }
+{
+    match sun::crossing_of(n, k) {
+        CrossingAnswer::Is(crossing) => {
+            let found = crossing.day;
+            *day = found;
+            *minute = crossing.minute;
+            0
+        }
+        CrossingAnswer::Refused(refusal) => units::refusal_number(refusal),
+    }
+}
+
+// The year call: the printed day and minute of each of a year's 24 terms, and the midnights visited to find them.
 #[no_mangle]
 pub extern "C" fn bhromilun_terms(
     n: i64,

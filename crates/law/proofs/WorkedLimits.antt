@@ -11,9 +11,10 @@ use Rattle.law.specs.Entry.{sineEntry, tangentEntry}
 use Rattle.law.specs.Round.{halfUp, halfUpOnSize, floorDiv, floorMod}
 use Rattle.reasoning.specs.Answer.{value, refused, refusalIn}
 use Rattle.reasoning.specs.InOrder.{inOrder}
-use Rattle.law.specs.Document.{epicycles, solstice, fraction, root, meanPlace, perigee, inCircle, anomaly, mirrored, folded, between, sine, cosine, height, base, longSide, tangent, lastMinute, anglePast, angle, equation, runOnPlace, mark, start, countFrom, count, termDay, minuteOn, termMinute, dayName, mansion, YearValues, yearAnswer, termValues, offFrom, offBelow, meanAnswer, trueAnswer, runOnAnswer, termAnswer, termsAnswer, fillAnswer, clockOfArc, localMinutes, localDay, localMinute, LocalValues, localAnswer}
+use Rattle.law.specs.Document.{epicycles, solstice, fraction, root, meanPlace, perigee, inCircle, anomaly, mirrored, folded, between, sine, cosine, height, base, longSide, tangent, lastMinute, anglePast, angle, equation, runOnPlace, mark, start, countFrom, count, termDay, goneOn, stepOn, cutMinute, roundedMinute, carriedMinute, carriedDay, printedDay, printedMinute, dayName, mansion, YearValues, yearAnswer, termValues, offFrom, offBelow, meanAnswer, trueAnswer, runOnAnswer, termAnswer, crossingValues, crossingAnswer, termsAnswer, fillAnswer, clockOfArc, localMinutes, localDay, localMinute, LocalValues, localAnswer}
 use Rattle.law.specs.Book.{recordSize, outOfTurn, outOfRange, recordAnswer, termsFrom, yearFrom, yearsFrom, bookOf, sound, faulty, BookYear, readAnswer, anyBad, badValues, writeAnswer, workedAnswer}
 use Rattle.law.proofs.WorkedBooks.{theTerm, year, with}
+use Rattle.law.proofs.WorkedTerms.{theCrossing}
 
 abbrev theYear : ℕ → ℕ → ℕ → ℕ → YearValues
 theYear name fraction mansion root =
@@ -52,8 +53,10 @@ pub record WorkedLimits : Type 0 where
   pub run-on-most : runOnAnswer epicycles (pos 0) (pos 370) ≡ value (pos 78_829_080_614_900)
   pub run-on-above : runOnAnswer epicycles (pos 0) (pos 371) ≡ refused 2
   -- 3, a term
-  pub term-most : termAnswer epicycles (pos 0) 23 ≡ value (theTerm (pos 350) 653 6)
+  pub term-most : termAnswer epicycles (pos 0) 23 ≡ value (theTerm (pos 350) 654 6)
   pub term-above : termAnswer epicycles (pos 0) 24 ≡ refused 3
+  pub crossing-most : crossingAnswer epicycles (pos 0) 23 ≡ value (theCrossing (pos 350) 653)
+  pub crossing-above : crossingAnswer epicycles (pos 0) 24 ≡ refused 3
   -- 2 and 4 of a local time
   pub local-day-below : localAnswer (negℤ (pos 5)) 0 (pos 0) ≡ refused 2
   pub local-day-least : localAnswer (negℤ (pos 4)) 0 (pos 0) ≡ value (there (negℤ (pos 4)) 0)
@@ -103,7 +106,7 @@ pub record WorkedLimits : Type 0 where
   pub write-last-minute-1440 : refusalIn (writeAnswer (lastAlone (pos 370) 1_440) (replicate 149 0)) ≡ 9
 
 pub worked-limits : WorkedLimits
-unfolding sines tangents sineEntry tangentEntry halfUp floorDiv floorMod solstice fraction root meanPlace perigee inCircle anomaly mirrored folded between sine cosine height base longSide tangent lastMinute anglePast angle equation runOnPlace mark start countFrom count termDay minuteOn termMinute dayName mansion yearAnswer termValues offFrom inOrder offBelow meanAnswer trueAnswer runOnAnswer termAnswer termsAnswer fillAnswer halfUpOnSize clockOfArc localMinutes localDay localMinute localAnswer recordSize outOfTurn outOfRange recordAnswer termsFrom yearFrom yearsFrom readAnswer anyBad badValues writeAnswer workedAnswer
+unfolding sines tangents sineEntry tangentEntry halfUp floorDiv floorMod solstice fraction root meanPlace perigee inCircle anomaly mirrored folded between sine cosine height base longSide tangent lastMinute anglePast angle equation runOnPlace mark start countFrom count termDay goneOn stepOn cutMinute roundedMinute carriedMinute carriedDay printedDay printedMinute dayName mansion yearAnswer termValues offFrom inOrder offBelow meanAnswer trueAnswer runOnAnswer termAnswer crossingValues crossingAnswer termsAnswer fillAnswer halfUpOnSize clockOfArc localMinutes localDay localMinute localAnswer recordSize outOfTurn outOfRange recordAnswer termsFrom yearFrom yearsFrom readAnswer anyBad badValues writeAnswer workedAnswer
 worked-limits =
     record {
       year-below = refl;
@@ -124,6 +127,8 @@ worked-limits =
       run-on-above = refl;
       term-most = refl;
       term-above = refl;
+      crossing-most = refl;
+      crossing-above = refl;
       local-day-below = refl;
       local-day-least = refl;
       local-day-most = refl;

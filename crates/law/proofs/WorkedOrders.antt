@@ -12,7 +12,7 @@ use Rattle.law.specs.Entry.{sineEntry, tangentEntry}
 use Rattle.law.specs.Round.{halfUp, floorDiv, floorMod}
 use Rattle.reasoning.specs.Answer.{refused, refusalIn}
 use Rattle.reasoning.specs.InOrder.{inOrder}
-use Rattle.law.specs.Document.{epicycles, solstice, fraction, root, meanPlace, perigee, inCircle, anomaly, mirrored, folded, between, sine, cosine, height, base, longSide, tangent, lastMinute, anglePast, angle, equation, runOnPlace, mark, start, countFrom, count, termDay, minuteOn, termMinute, termValues, offFrom, offBelow, meanAnswer, trueAnswer, runOnAnswer, termAnswer, termsAnswer, fillAnswer, localAnswer}
+use Rattle.law.specs.Document.{epicycles, solstice, fraction, root, meanPlace, perigee, inCircle, anomaly, mirrored, folded, between, sine, cosine, height, base, longSide, tangent, lastMinute, anglePast, angle, equation, runOnPlace, mark, start, countFrom, count, termDay, goneOn, stepOn, roundedMinute, carriedMinute, carriedDay, printedDay, printedMinute, termValues, offFrom, offBelow, meanAnswer, trueAnswer, runOnAnswer, termAnswer, crossingAnswer, termsAnswer, fillAnswer, localAnswer}
 use Rattle.law.specs.Book.{recordSize, outOfTurn, outOfRange, recordAnswer, termsFrom, yearFrom, yearsFrom, bookOf, faulty, unsound, noYear, seekFrom, seekOf, readAnswer, anyBad, badValues, writeAnswer, workedAnswer}
 use Rattle.law.proofs.WorkedBooks.{year, with}
 use Rattle.law.proofs.WorkedParts.{twice}
@@ -39,6 +39,11 @@ pub record WorkedOrders : Type 0 where
   pub term-3-5 : termAnswer 1_000_000 (pos 0) 24 ≡ refused 3
   pub term-5 : termAnswer 1_000_000 (pos 0) 6 ≡ refused 5
   pub term-5-at-the-last-midnight : termAnswer 189_400 (negℤ (pos 1_900)) 16 ≡ refused 5
+  pub crossing-1-3 : crossingAnswer epicycles (pos 2_001) 24 ≡ refused 1
+  pub crossing-1-5 : crossingAnswer 1_000_000 (negℤ (pos 2_001)) 6 ≡ refused 1
+  pub crossing-3-5 : crossingAnswer 1_000_000 (pos 0) 24 ≡ refused 3
+  pub crossing-5 : crossingAnswer 1_000_000 (pos 0) 6 ≡ refused 5
+  pub crossing-5-at-the-last-midnight : crossingAnswer 189_400 (negℤ (pos 1_900)) 16 ≡ refused 5
   pub fill-1-5 : refusalIn (fillAnswer 1_000_000 (pos 2_001) 24) ≡ 1
   pub fill-6-5 : refusalIn (fillAnswer 1_000_000 (pos 0) 23) ≡ 6
   pub fill-5 : refusalIn (fillAnswer 1_000_000 (pos 0) 24) ≡ 5
@@ -79,7 +84,7 @@ pub record WorkedOrders : Type 0 where
   pub write-6-9-buffer : refusalIn (writeAnswer (values (pos 0) 0 28 (pos 0) 0 24) (replicate 148 0)) ≡ 6
 
 pub worked-orders : WorkedOrders
-unfolding sines tangents sineEntry tangentEntry halfUp floorDiv floorMod solstice fraction root meanPlace perigee inCircle anomaly mirrored folded between sine cosine height base longSide tangent lastMinute anglePast angle equation runOnPlace mark start countFrom count termDay minuteOn termMinute termValues offFrom inOrder offBelow meanAnswer trueAnswer runOnAnswer termAnswer termsAnswer fillAnswer localAnswer recordSize outOfTurn outOfRange recordAnswer termsFrom yearFrom yearsFrom seekFrom seekOf readAnswer anyBad badValues writeAnswer workedAnswer
+unfolding sines tangents sineEntry tangentEntry halfUp floorDiv floorMod solstice fraction root meanPlace perigee inCircle anomaly mirrored folded between sine cosine height base longSide tangent lastMinute anglePast angle equation runOnPlace mark start countFrom count termDay goneOn stepOn roundedMinute carriedMinute carriedDay printedDay printedMinute termValues offFrom inOrder offBelow meanAnswer trueAnswer runOnAnswer termAnswer crossingAnswer termsAnswer fillAnswer localAnswer recordSize outOfTurn outOfRange recordAnswer termsFrom yearFrom yearsFrom seekFrom seekOf readAnswer anyBad badValues writeAnswer workedAnswer
 worked-orders =
     record {
       mean-1-2 = refl;
@@ -100,6 +105,11 @@ worked-orders =
       term-3-5 = refl;
       term-5 = refl;
       term-5-at-the-last-midnight = refl;
+      crossing-1-3 = refl;
+      crossing-1-5 = refl;
+      crossing-3-5 = refl;
+      crossing-5 = refl;
+      crossing-5-at-the-last-midnight = refl;
       fill-1-5 = refl;
       fill-6-5 = refl;
       fill-5 = refl;

@@ -1,10 +1,11 @@
--- Document 01 as definitions, its sections in its order and words: hold the two side by side.
+-- Document 01 as definitions, its sections in its order and words, with what document 02's requests changed in it: hold the three
+-- side by side.
 -- N is the years elapsed from 1684 and d a day, signed. An angle is in whole units, and a place may be below 0 or past the circle.
 -- Assumes nothing.
 use mathlib.Core.Bool.{Bool, false, cond, _||_}
 use mathlib.Core.List.{List, _++_}
 use Prim.Native.Nat.{ℕ, zero, suc, _+_, _*_, _-_, _/_, _%_}
-use lib.Dec.{leb, ltb}
+use lib.Dec.{leb, ltb, eqb}
 use lib.IntN.{ℤ, pos, negℤ, natAbs, _+ℤ_, _-ℤ_, _*ℤ_}
 use lib.ListN.{drop}
 use lib.Signed.{ltZ}
@@ -198,18 +199,46 @@ countFrom place mark (suc left) d = cond (ltZ mark (place d)) 1 (suc (countFrom 
 unfoldable pub count : ℕ → ℤ → ℕ → ℕ
 count e N k = countFrom (runOnPlace e N) (mark k) 8 (start N k)
 
--- its day is the one before the first midnight past the mark
+-- its day is the one before the first midnight past the mark: demand 3's day
 unfoldable pub termDay : ℕ → ℤ → ℕ → ℤ
 termDay e N k = start N k +ℤ pos (count e N k) -ℤ pos 2
 
+-- mark − place, what is gone from the midnight of day d to the mark; next place − place, the step from that midnight to the next
+unfoldable pub goneOn : ℕ → ℤ → ℤ → ℤ → ℕ
+goneOn e N mark d = natAbs (mark -ℤ runOnPlace e N d)
+
+unfoldable pub stepOn : ℕ → ℤ → ℤ → ℕ
+stepOn e N d = natAbs (runOnPlace e N (d +ℤ pos 1) -ℤ runOnPlace e N d)
+
 -- the minute is 1,440 × (mark − place) / (next place − place), cut off and not rounded
-unfoldable pub minuteOn : ℕ → ℤ → ℤ → ℤ → ℕ
-minuteOn e N mark d =
-    1_440 * natAbs (mark -ℤ runOnPlace e N d) / natAbs (runOnPlace e N (d +ℤ pos 1) -ℤ runOnPlace e N d)
+abbrev pub cutOff : ℕ → ℕ → ℕ
+cutOff gone step = 1_440 * gone / step
 
 -- on the term's own day
-unfoldable pub termMinute : ℕ → ℤ → ℕ → ℕ
-termMinute e N k = minuteOn e N (mark k) (termDay e N k)
+unfoldable pub cutMinute : ℕ → ℤ → ℕ → ℕ
+cutMinute e N k = cutOff (goneOn e N (mark k) (termDay e N k)) (stepOn e N (termDay e N k))
+
+-- minutes are rounded in the almanac (document 02, K2): half or more now rounds up
+abbrev pub rounded : ℕ → ℕ → ℕ
+rounded gone step = halfUp (1_440 * gone) step
+
+unfoldable pub roundedMinute : ℕ → ℤ → ℕ → ℕ
+roundedMinute e N k = rounded (goneOn e N (mark k) (termDay e N k)) (stepOn e N (termDay e N k))
+
+-- where that gives 1,440, the answer is minute 0
+unfoldable pub carriedMinute : ℕ → ℕ
+carriedMinute m = cond (eqb m 1_440) 0 m
+
+-- of the next day
+unfoldable pub carriedDay : ℤ → ℕ → ℤ
+carriedDay d m = cond (eqb m 1_440) (d +ℤ pos 1) d
+
+-- so the printed day may be one later than demand 3's
+unfoldable pub printedDay : ℕ → ℤ → ℕ → ℤ
+printedDay e N k = carriedDay (termDay e N k) (roundedMinute e N k)
+
+unfoldable pub printedMinute : ℕ → ℤ → ℕ → ℕ
+printedMinute e N k = carriedMinute (roundedMinute e N k)
 
 -- a place lies at a signed longitude in seconds of arc, east positive; fifteen make one clock second, half or more up on the size
 unfoldable pub clockOfArc : ℤ → ℤ
@@ -307,13 +336,25 @@ pub record TermValues : Type 0 where
   pub minuteOfTerm : ℕ
   pub countOfTerm : ℕ
 
--- of term k of the year N
+-- of term k of the year N, as it is printed
 unfoldable pub termValues : ℕ → ℤ → ℕ → TermValues
-termValues e N k = record { dayOfTerm = termDay e N k; minuteOfTerm = termMinute e N k; countOfTerm = count e N k }
+termValues e N k = record { dayOfTerm = printedDay e N k; minuteOfTerm = printedMinute e N k; countOfTerm = count e N k }
 
 -- one term: 1, 3, 5
 unfoldable pub termAnswer : ℕ → ℤ → ℕ → Answer TermValues
 termAnswer e N k = refusing (badYear N) 1 (refusing (badTerm k) 3 (refusing (offTerm e N k) 5 (value (termValues e N k))))
+
+-- a term's crossing: demand 3's day, and the minute cut off
+pub record CrossingValues : Type 0 where
+  pub dayOfCrossing : ℤ
+  pub minuteOfCrossing : ℕ
+
+unfoldable pub crossingValues : ℕ → ℤ → ℕ → CrossingValues
+crossingValues e N k = record { dayOfCrossing = termDay e N k; minuteOfCrossing = cutMinute e N k }
+
+-- by itself: 1, 3, 5
+unfoldable pub crossingAnswer : ℕ → ℤ → ℕ → Answer CrossingValues
+crossingAnswer e N k = refusing (badYear N) 1 (refusing (badTerm k) 3 (refusing (offTerm e N k) 5 (value (crossingValues e N k))))
 
 -- 5, at any term below k
 unfoldable pub offBelow : ℕ → ℤ → ℕ → Bool

@@ -8,7 +8,7 @@ use borrow.Author.Tests.{lt-ltb, le-ltb}
 use Rattle.reasoning.specs.Answer.{value, refused}
 use Rattle.law.specs.Document.{second, degree, dailyMotion, epicycles, offTable}
 use Rattle.reasoning.proofs.Answers.{passed, stopped}
-use Rattle.motion.specs.Working.{rootOf, anomalyOf, lift, placeOf, placeAnswer, markOf, startOf, countFromOf, minuteBetween, Find, findFrom, findOf}
+use Rattle.motion.specs.Working.{rootOf, anomalyOf, lift, placeOf, placeAnswer, markOf, startOf, countFromOf, Find, findFrom, findOf}
 use Rattle.motion.proofs.DailyMotion.{place-next}
 use Rattle.motion.proofs.Walk.{start-le, start-before, start-after}
 use Rattle.motion.proofs.NeverOffTable.{never-off-table}
@@ -18,7 +18,7 @@ use Rattle.motion.proofs.NeverOffTable.{never-off-table}
 module _ (place : ℕ → ℕ) (mark left j count : ℕ) where
   -- before is the place of the midnight before j
   find-here : (before : ℕ) → 0 < j → mark < place j → before ≡ place (j - 1)
-      → record { dayFound = j - 1; minuteFound = minuteBetween mark before (place j); countFound = count + 1 } ≡ findFrom place mark (suc left) j count
+      → record { dayFound = j - 1; goneFound = mark - before; stepFound = place j - before; countFound = count + 1 } ≡ findFrom place mark (suc left) j count
   unfolding findFrom countFromOf
   find-here before p h e =
       let i : j + 1 - 2 ≡ j - 1 = omega arith in
@@ -30,7 +30,7 @@ module _ (place : ℕ → ℕ) (mark left j count : ℕ) where
   find-further h = rw (le-ltb _ _ h) (go (countFromOf place mark left (suc j)))
     where
       at : ℕ → ℕ → Find
-      at n s = record { dayFound = n; minuteFound = minuteBetween mark (place n) (place (suc n)); countFound = s }
+      at n s = record { dayFound = n; goneFound = mark - place n; stepFound = place (suc n) - place n; countFound = s }
 
       go : (c : ℕ) → at (suc j + c - 2) (count + 1 + c) ≡ at (j + suc c - 2) (count + suc c)
       go c =
@@ -60,7 +60,7 @@ module _ (y mark left j before count p : ℕ) (e : p ≡ placeOf epicycles y j) 
     pub first : 0 < j
     pub rises : before < p
     pub near : p ≤ before + 3_679 * second
-    pub is : record { dayFound = j - 1; minuteFound = minuteBetween mark before p; countFound = count + 1 } ≡ findFrom (placeOf epicycles y) mark left j count
+    pub is : record { dayFound = j - 1; goneFound = mark - before; stepFound = p - before; countFound = count + 1 } ≡ findFrom (placeOf epicycles y) mark left j count
 
   pub here : mark < p → Here
   here g =

@@ -15,6 +15,7 @@ pub mod TermBridge
 pub mod Years
 pub mod Rises
 pub mod OneDay
+pub mod Printed
 pub mod FewMidnights
 pub mod NeverOffTable
 pub mod Finds

@@ -1,14 +1,14 @@
--- Document 01's start, count, day and minute of a term are the working forms', once each: the year y = N + 2,000, the day j = d + 4,
--- the mark lifted. Assumes nothing.
+-- Document 01's start, count and day of a term, what is gone on it and its step are the working forms', once each: the year
+-- y = N + 2,000, the day j = d + 4, the mark lifted. Assumes nothing.
 use mathlib.Core.Path.{_≡_, refl, _∙_}
-use Prim.Native.Nat.{ℕ, zero, suc, _+_, _*_, _-_, _/_, _≤_}
+use Prim.Native.Nat.{ℕ, zero, suc, _+_, _*_, _-_, _≤_}
 use native.Mathlib.Nat.{add-zero}
 use native.Mathlib.Omega.{arith}
 use lib.Dec.{ltb}
 use lib.IntN.{ℤ, pos, natAbs, _-ℤ_}
 use lib.Signed.{ltZ}
 use Rattle.reasoning.proofs.Whole.{Is, is-pos, is-next, is-add, is-minus, is-abs, ltZ-is}
-use Rattle.law.specs.Document.{dailyMotion, epicycles, root, runOnPlace, mark, start, countFrom, count, termDay, minuteOn, termMinute}
+use Rattle.law.specs.Document.{dailyMotion, epicycles, root, runOnPlace, mark, start, countFrom, count, termDay, goneOn, stepOn}
 use Rattle.law.proofs.Floor.{div-is}
 use Rattle.motion.specs.Working.{rootOf, lift, placeOf, markOf, startOf, countFromOf}
 use Rattle.motion.proofs.Bridge.{root-is, run-on-is}
@@ -49,13 +49,15 @@ module _ {N : ℤ} {y : ℕ} (h : Is N y 2_000) where
       term-day-is =
           omega (arith, is-minus (is-add (start-is k) (is-pos (count e N k))) (is-pos 2), count-is, walk e o y (markOf k) .least)
 
-      pub term-minute-is : termMinute e N k
-          ≡ 1_440 * (markOf k + lift - placeOf e y (dayOf e y (markOf k)))
-          / (placeOf e y (suc (dayOf e y (markOf k))) - placeOf e y (dayOf e y (markOf k)))
-      unfolding termMinute minuteOn mark
-      term-minute-is =
+      -- what is gone on that day, and its step
+      pub gone-is : goneOn e N (mark k) (termDay e N k) ≡ markOf k + lift - placeOf e y (dayOf e y (markOf k))
+      unfolding goneOn mark
+      gone-is =
           let m : Is (mark k) (markOf k + lift) lift = omega (arith, is-pos (markOf k)) in
-          let p = run-on-is h term-day-is e l in
-          let q = run-on-is h (is-next term-day-is) e l in
+          abs-apart m (run-on-is h term-day-is e l) (walk e o y (markOf k) .before)
+
+      pub step-is : stepOn e N (termDay e N k) ≡ placeOf e y (suc (dayOf e y (markOf k))) - placeOf e y (dayOf e y (markOf k))
+      unfolding stepOn
+      step-is =
           let w = walk e o y (markOf k) in
-          rw (abs-apart m p (w .before), abs-apart q p (omega (arith, w .before, w .after))) refl
+          abs-apart (run-on-is h (is-next term-day-is) e l) (run-on-is h term-day-is e l) (omega (arith, w .before, w .after))

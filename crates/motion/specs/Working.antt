@@ -3,11 +3,12 @@
 use mathlib.Core.Bool.{cond}
 use Prim.Native.Nat.{ℕ, zero, suc, _+_, _*_, _-_, _/_, _%_}
 use lib.Dec.{leb, ltb}
-use lib.IntN.{pos, _-ℤ_}
+use lib.IntN.{ℤ, pos, _-ℤ_}
 use Rattle.law.specs.Entry.{lastTangent, tangentEntry}
+use Rattle.law.specs.Index.{yearIndex}
 use Rattle.law.specs.Round.{halfUp}
 use Rattle.reasoning.specs.Answer.{Answer, value, refusing}
-use Rattle.law.specs.Document.{degree, circle, half, quarter, day, yearLength, dailyMotion, perigeeYearly, perigeeDaily, perigeeEpoch, dayEpoch, radius, sine, cosine, tangent, angle, offTable, YearValues, TermValues}
+use Rattle.law.specs.Document.{degree, circle, half, quarter, day, yearLength, dailyMotion, perigeeYearly, perigeeDaily, perigeeEpoch, dayEpoch, radius, sine, cosine, tangent, angle, cutOff, rounded, carriedMinute, carriedDay, badYear, badTerm, offTable, YearValues, TermValues, CrossingValues}
 
 -- ---- the year
 
@@ -103,14 +104,12 @@ unfoldable pub countFromOf : (ℕ → ℕ) → ℕ → ℕ → ℕ → ℕ
 countFromOf place mark zero j = zero
 countFromOf place mark (suc left) j = cond (ltb mark (place j)) 1 (suc (countFromOf place mark left (suc j)))
 
--- the minute between the places of two midnights in a row
-abbrev pub minuteBetween : ℕ → ℕ → ℕ → ℕ
-minuteBetween mark place next = 1_440 * (mark - place) / (next - place)
-
--- what a walk finds: the night before the first one past the mark, the minute, and the midnights visited
+-- what a walk finds: the night before the first one past the mark, what is gone from its place to the mark, the step to the next
+-- night's place, and the midnights visited
 pub record Find : Type 0 where
   pub dayFound : ℕ
-  pub minuteFound : ℕ
+  pub goneFound : ℕ
+  pub stepFound : ℕ
   pub countFound : ℕ
 
 -- from j on with so many left, and so many counted before
@@ -118,7 +117,8 @@ unfoldable pub findFrom : (ℕ → ℕ) → ℕ → ℕ → ℕ → ℕ → Find
 findFrom place mark left j count =
     record {
       dayFound = j + countFromOf place mark left j - 2;
-      minuteFound = minuteBetween mark (place (j + countFromOf place mark left j - 2)) (place (suc (j + countFromOf place mark left j - 2)));
+      goneFound = mark - place (j + countFromOf place mark left j - 2);
+      stepFound = place (suc (j + countFromOf place mark left j - 2)) - place (j + countFromOf place mark left j - 2);
       countFound = count + countFromOf place mark left j;
     }
 
@@ -126,7 +126,22 @@ findFrom place mark left j count =
 unfoldable pub findOf : ℕ → ℕ → ℕ → Find
 findOf e y k = findFrom (placeOf e y) (markOf k + lift) 8 (startOf y (markOf k)) 0
 
--- and its day is counted as the document counts it
+-- the same for any N and k, the refusals in their order; 5 never comes
+unfoldable pub findAnswer : ℕ → ℤ → ℕ → Answer Find
+findAnswer e N k = refusing (badYear N) 1 (refusing (badTerm k) 3 (value (findOf e (yearIndex N) k)))
+
+-- the night found as a day of the document's, with the minute cut off
+unfoldable pub crossingOf : Find → CrossingValues
+crossingOf f = record { dayOfCrossing = pos (f .dayFound) -ℤ pos 4; minuteOfCrossing = cutOff (f .goneFound) (f .stepFound) }
+
+-- and as it is printed
+unfoldable pub printOf : Find → TermValues
+printOf f =
+    record {
+      dayOfTerm = carriedDay (pos (f .dayFound) -ℤ pos 4) (rounded (f .goneFound) (f .stepFound));
+      minuteOfTerm = carriedMinute (rounded (f .goneFound) (f .stepFound));
+      countOfTerm = f .countFound;
+    }
+
 unfoldable pub termOf : ℕ → ℕ → ℕ → TermValues
-termOf e y k =
-    record { dayOfTerm = pos (findOf e y k .dayFound) -ℤ pos 4; minuteOfTerm = findOf e y k .minuteFound; countOfTerm = findOf e y k .countFound }
+termOf e y k = printOf (findOf e y k)

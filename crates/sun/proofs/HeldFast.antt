@@ -4,7 +4,7 @@ use lib.IntN.{ℤ}
 use mathlib.Core.List.{List, [], _∷_, map}
 use Rattle.reasoning.proofs.HeldFast.{Held, by-facts, one-said}
 use Rattle.reasoning.specs.Answer.{Answer, value, refused}
-use Rattle.law.specs.Document.{YearValues, TermValues}
+use Rattle.law.specs.Document.{YearValues, TermValues, CrossingValues}
 use Rattle.units.specs.Said.{saidNumber, saidSigned}
 use Rattle.units.proofs.HeldFast.{refusalOf, refusal-back, numberBack, number-back, signedBack, signed-back}
 use Rattle.sun.specs.declared.year.Year.{Year}
@@ -13,10 +13,12 @@ use Rattle.sun.specs.declared.year.YearAnswer.the-variants as year
 use Rattle.sun.specs.declared.term.TermRecord.{TermRecord}
 use Rattle.sun.specs.declared.term.TermAnswer.{TermAnswer}
 use Rattle.sun.specs.declared.term.TermAnswer.the-variants as term
+use Rattle.sun.specs.declared.term.CrossingAnswer.{CrossingAnswer}
+use Rattle.sun.specs.declared.term.CrossingAnswer.the-variants as crossing
 use Rattle.sun.specs.declared.worked_year.Listed.{Listed}
 use Rattle.sun.specs.declared.worked_year.Listed.the-variants as listed
 use Rattle.sun.specs.declared.worked_year.WorkedYear.{WorkedYear}
-use Rattle.sun.specs.Said.{valuesOfYear, saidYear, valuesOfTerm, saidTerm}
+use Rattle.sun.specs.Said.{valuesOfYear, saidYear, valuesOfTerm, saidTerm, saidCrossing}
 use Rattle.sun.specs.Worked.{saidDone, WorkedOut}
 use Rattle.sun.proofs.year.year_of as year-of
 use Rattle.sun.proofs.equation.equation_at as equation-at
@@ -24,6 +26,7 @@ use Rattle.sun.proofs.place.mean_place as mean-place
 use Rattle.sun.proofs.place.true_place as true-place
 use Rattle.sun.proofs.place.run_on_place as run-on-place
 use Rattle.sun.proofs.term.term_of as term-of
+use Rattle.sun.proofs.term.crossing_of as crossing-of
 use Rattle.sun.proofs.worked_year.work_year as work-year
 
 -- ---- the readings of answers can be taken back
@@ -50,6 +53,14 @@ term-back : (r : TermAnswer) → termFrom (saidTerm r) ≡ r
 term-back (term.Is v) = refl
 term-back (term.Refused r) = ap term.Refused (refusal-back r)
 
+abbrev crossingFrom : Answer CrossingValues → CrossingAnswer
+crossingFrom (value v) = crossing.Is (record { day = v .dayOfCrossing; minute = v .minuteOfCrossing })
+crossingFrom (refused k) = crossing.Refused (refusalOf k)
+
+crossing-back : (r : CrossingAnswer) → crossingFrom (saidCrossing r) ≡ r
+crossing-back (crossing.Is v) = refl
+crossing-back (crossing.Refused r) = ap crossing.Refused (refusal-back r)
+
 pub records-back : (l : List TermRecord) → map recordFrom (map valuesOfTerm l) ≡ l
 records-back [] = refl
 records-back (x ∷ xs) = ap (λ (r : List TermRecord). x ∷ r) (records-back xs)
@@ -73,6 +84,9 @@ run-on-place-held M 𝓤 H A mem run κs a = by-facts 𝓤 (λ z z′ w w′ p q
 
 pub term-of-held : Held term-of.ended (λ M. term-of.clauses {M = M})
 term-of-held M 𝓤 H A mem run κs a = by-facts 𝓤 (λ z z′ w w′ p q. (one-said saidTerm termFrom term-back p q, refl))
+
+pub crossing-of-held : Held crossing-of.ended (λ M. crossing-of.clauses {M = M})
+crossing-of-held M 𝓤 H A mem run κs a = by-facts 𝓤 (λ z z′ w w′ p q. (one-said saidCrossing crossingFrom crossing-back p q, refl))
 
 -- a lent list afterwards, as its records are read
 pub one-records : {s : List TermValues} {l l′ : List TermRecord} → map valuesOfTerm l ≡ s → map valuesOfTerm l′ ≡ s → l ≡ l′

@@ -99,14 +99,26 @@ fn term(tally: &mut Tally, n: i64, k: u64) {
     tally.case(|| format!("year {n}, term {k}"), (number, day, minute, count), ours);
 }
 
+fn crossing(tally: &mut Tally, n: i64, k: u64) {
+    let (mut day, mut minute) = (BEFORE_SIGNED, BEFORE);
+    let number = plain::crossing(n, k, &mut day, &mut minute);
+    let ours = match reckoning::crossing(n, k) {
+        Ok(Moment { day, minute }) => (0, day, minute),
+        Err(refusal) => (refusal.number, BEFORE_SIGNED, BEFORE),
+    };
+    tally.case(|| format!("year {n}, crossing of term {k}"), (number, day, minute), ours);
+}
+
+/// Each term as it is printed, and its crossing.
 pub fn terms(tally: &mut Tally) {
     let outside = [24, 25, 255, 256, 257, 1 << 32, 1 << 63, u64::MAX - 1, u64::MAX];
     for n in YEARS.chain(years_outside()) {
         for k in (0..24).chain(outside) {
             term(tally, n, k);
+            crossing(tally, n, k);
         }
     }
-    tally.end_of_part("terms");
+    tally.end_of_part("terms and crossings");
 }
 
 /// The year call: one call, and a case for each of the 24 terms and for what stands beside the arrays.

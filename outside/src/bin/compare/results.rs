@@ -13,7 +13,11 @@ fn case(tally: &mut Tally, name: &str, library: impl Debug, ours: impl Debug) {
 pub fn results(tally: &mut Tally, shelf: &[u8]) {
     for n in [-676, 0, 2_001] {
         case(tally, "year's result", bhromilun::year(n), reckoning::year(n));
-        case(tally, "term's result", bhromilun::term(n, 5), reckoning::term(n, 5));
+        for k in [5, 24] {
+            case(tally, "term's result", bhromilun::term(n, k), reckoning::term(n, k));
+            let ours = reckoning::crossing(n, k);
+            case(tally, "crossing's result", bhromilun::crossing(n, k), ours);
+        }
         let ours: Result<Vec<Term>, Refusal> = (0..24).map(|k| reckoning::term(n, k)).collect();
         case(tally, "year call's result", bhromilun::terms(n), ours);
         for day in [370, 371] {

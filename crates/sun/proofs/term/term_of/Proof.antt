@@ -1,59 +1,26 @@
--- A term's values are the document's; refusals 1 and 3 in their order, each exactly where its test holds. Assumes nothing.
-use mathlib.Core.Bool.{true}
-use mathlib.Core.Path.{_≡_, refl, _∙_}
+-- What is printed of the search's find is the document's term. Assumes nothing.
+use mathlib.Core.Path.{ap, _∙_}
 use native.Mathlib.Omega.{arith}
-use borrow.Author.Tests.{lt-ltb}
+use mir.Facts.{toZ-ofZ}
 use borrow.Author.Needs.{needs}
-use Rattle.reasoning.proofs.Indexed.{Indexed}
-use Rattle.law.specs.Document.{badYear, epicycles, termAnswer}
-use Rattle.motion.proofs.TermAnswers.{term-value}
-use Rattle.units.proofs.Callers.{year-known, year-unknown}
+use Rattle.reasoning.specs.Answer.{part}
+use Rattle.law.specs.Document.{epicycles}
+use Rattle.motion.specs.Working.{findAnswer, printOf}
+use Rattle.motion.proofs.TermAnswers.{term-answered}
 use Rattle.sun.proofs.term.term_of.Statement.{statement}
 use Rattle.sun.proofs.term.term_of.Tie as tie
 
-in-range : (c : tie.After-y) → Indexed 2_000 2_000 (c .before .before .before .args .n) (c .y .given .0 .0)
-in-range c = year-known (c .before .before .before .fits .n) (c .before .before .year-index .ensures) (c .y .given .1)
+find-at-requires : tie.Need-find-at-requires
+find-at-requires c κs = search needs
 
-out-of-range : (c : tie.After-enum-told) → badYear (c .before .before .before .args .n) ≡ true
-out-of-range c = year-unknown (c .before .before .before .fits .n) (c .before .before .year-index .ensures) (c .enum-told .given .1)
-
-year-index-requires : tie.Need-year-index-requires
-year-index-requires c κs = search needs
-
-enum-known-y : tie.Need-enum-known-y
-enum-known-y c = search needs
-
-enum-told : tie.Need-enum-told
-enum-told c = search needs
+printed-requires : tie.Need-printed-requires
+printed-requires c κs = c .find-at .ensures .1
 
 returns : tie.Need-returns
-unfolding termAnswer
-returns c = rw (out-of-range c) refl
-
-returns-2 : tie.Need-returns-2
-unfolding termAnswer
-returns-2 c = rw (in-range (c .before .before) .test, lt-ltb _ _ (c .if1 .taken)) refl
-
-sine-table-requires : tie.Need-sine-table-requires
-sine-table-requires c κs = search needs
-
-tangent-table-requires : tie.Need-tangent-table-requires
-tangent-table-requires c κs = search needs
-
-root-of-requires : tie.Need-root-of-requires
-root-of-requires c κs = in-range (c .before .before .before .before) .most
-
-term-in-requires : tie.Need-term-in-requires
-term-in-requires c κs =
-    (in-range (c .before .before .before .before .before .before .before) .most, c .before .before .root-of .ensures .0, c .before .before .before .before .before .if1 .left, (c .before .before .before .before .sine-table .ensures, c .before .before .before .tangent-table .ensures))
-
-returns-3 : tie.Need-returns-3
-returns-3 c =
-    let start = c .before .before .before .before .before .before .before .before .before .before .before in
-    c .term-in .ensures
-    ∙ term-value epicycles (omega arith) (start .args .n) (in-range (c .before .before .before .before .before .before .before .before)) (start .args .k) (omega arith)
+returns c =
+    let start = c .before .before in
+    let found = c .before .find-at .ensures .0 ∙ ap (λ n. findAnswer epicycles n (start .args .k)) (toZ-ofZ (start .fits .n)) in
+    c .printed .ensures ∙ (ap (part printOf) found ∙ term-answered epicycles (omega arith) (start .args .n) (start .args .k))
 
 pub term-of-spec : {M : Type 1} → statement M
-term-of-spec =
-    tie.close
-    (tie.spec year-index-requires enum-known-y enum-told returns returns-2 sine-table-requires tangent-table-requires root-of-requires term-in-requires returns-3)
+term-of-spec = tie.close (tie.spec find-at-requires printed-requires returns)
