@@ -5,7 +5,7 @@ use native.Mathlib.Decide.{decLt}
 use native.Mathlib.Nat.{mul-zero, mul-le-mul, mul-le-mul-left}
 use native.Mathlib.Omega.{arith}
 use Rattle.law.specs.Entry.{lastSine, sineEntry}
-use Rattle.law.proofs.Rules.{sine-step, sine-top}
+use Rattle.law.proofs.Rules.{sine-step, sine-top, sine-past}
 use Rattle.law.specs.Document.{tenMinutes, quarter, radius, between, sine}
 
 -- at the last entry nothing is over
@@ -17,30 +17,29 @@ sine-last x h e =
     rw m (mul-zero (sineEntry (x / tenMinutes + 1) - sineEntry (x / tenMinutes))) in
     omega arith
 
--- before it, between the entries below and above
-pub record Between (x below above : ℕ) : Type 0 where
-  pub rises : below ≤ above
-  pub fits : (above - below) * (x % tenMinutes) < 2 ^ 60
-  pub part : (above - below) * (x % tenMinutes) / tenMinutes ≤ above - below
-  pub most : above ≤ radius
-  pub is : below + (above - below) * (x % tenMinutes) / tenMinutes ≡ sine x
+-- from the entry below and the step to the next, which is 0 at the last entry
+step-most : (k : ℕ) → sineEntry (k + 1) - sineEntry k ≤ 29_089
+step-most k = go (decLt k lastSine)
+  where
+    go : Dec (k < lastSine) → sineEntry (k + 1) - sineEntry k ≤ 29_089
+    go (yes l) = omega (arith, sine-step k l)
+    go (no l) = omega (arith, sine-past (k + 1) (omega arith))
 
-pub sine-between : (x below above : ℕ) → below ≡ sineEntry (x / tenMinutes) → above ≡ sineEntry (x / tenMinutes + 1)
-    → x / tenMinutes < lastSine → Between x below above
+pub record Between (x below step : ℕ) : Type 0 where
+  pub fits : step * (x % tenMinutes) < 2 ^ 60
+  pub part : step * (x % tenMinutes) / tenMinutes ≤ step
+  pub is : below + step * (x % tenMinutes) / tenMinutes ≡ sine x
+
+pub sine-between : (x below step : ℕ) → below ≡ sineEntry (x / tenMinutes)
+    → step ≡ sineEntry (x / tenMinutes + 1) - sineEntry (x / tenMinutes) → Between x below step
 unfolding sine between
-sine-between x below above i j h =
-    let s = sine-step (x / tenMinutes) h in
-    let w : (above - below) * (x % tenMinutes) ≤ 29_089 * tenMinutes =
-    mul-le-mul {n₁ = above - below} {m₁ = x % tenMinutes} {n₂ = 29_089} {m₂ = tenMinutes} (omega arith) (omega arith) in
-    let v : (above - below) * (x % tenMinutes) ≤ (above - below) * tenMinutes =
-    mul-le-mul-left {m = x % tenMinutes} {n = tenMinutes} (above - below) (omega arith) in
-    record {
-      rises = omega arith;
-      fits = omega arith;
-      part = omega arith;
-      most = omega (arith, sine-top (x / tenMinutes + 1) (omega arith));
-      is = rw (i, j) refl;
-    }
+sine-between x below step b s =
+    let most = step-most (x / tenMinutes) in
+    let w : step * (x % tenMinutes) ≤ 29_089 * tenMinutes =
+    mul-le-mul {n₁ = step} {m₁ = x % tenMinutes} {n₂ = 29_089} {m₂ = tenMinutes} (omega arith) (omega arith) in
+    let v : step * (x % tenMinutes) ≤ step * tenMinutes =
+    mul-le-mul-left {m = x % tenMinutes} {n = tenMinutes} step (omega arith) in
+    record { fits = omega arith; part = omega arith; is = rw (b, s) refl }
 
 pub sine-le : (x : ℕ) → x ≤ quarter → sine x ≤ radius
 sine-le x h = go (decLt (x / tenMinutes) lastSine)
@@ -49,5 +48,7 @@ sine-le x h = go (decLt (x / tenMinutes) lastSine)
     k = x / tenMinutes
 
     go : Dec (k < lastSine) → sine x ≤ radius
-    go (yes l) = let b = sine-between x (sineEntry k) (sineEntry (k + 1)) refl refl l in omega arith
+    go (yes l) =
+        let b = sine-between x (sineEntry k) (sineEntry (k + 1) - sineEntry k) refl refl in
+        omega (arith, sine-step k l, sine-top (k + 1) (omega arith))
     go (no l) = omega (arith, sine-last x h (omega arith), sine-top k (omega arith))

@@ -26,6 +26,15 @@ pub mirrored-high : (a : ℕ) → half < a → mirrored a ≡ circle - a
 unfolding mirrored
 mirrored-high a h = rw (lt-leb _ _ h) refl
 
+-- an arc from the perigee is folded by itself
+pub folded-near : (u : ℕ) → u ≤ quarter → folded u ≡ u
+unfolding folded
+folded-near u h = let low : u ≤ half = omega arith in rw (mirrored-low u low, le-leb _ _ h) refl
+
+pub folded-far : (u : ℕ) → quarter < u → u ≤ half → folded u ≡ half - u
+unfolding folded
+folded-far u h low = rw (mirrored-low u low, lt-leb _ _ h) refl
+
 pub tangent-is : (e a : ℕ) → tangent e a ≡ tangentOf e (mirrored a)
 unfolding tangent longSide base height folded tangentOf nearOf farOf heightOf baseOf
 tangent-is e a = go (mirrored a) (leb (mirrored a) quarter)

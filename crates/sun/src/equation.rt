@@ -1,5 +1,5 @@
-// The equation of centre, document 01's steps 1 to 5. Both tables are lent from above: a constant array is laid out wherever
-// it is read, and a call does that once, not at each equation.
+// The equation of centre, document 01's steps 1 to 5. A call that works out many equations lends both tables from above; one that
+// needs a single equation has the two sines' entries added up, and no table of sines.
 use crate::constants::CIRCLE;
 use crate::constants::EPICYCLES;
 use crate::constants::HALF;
@@ -11,17 +11,27 @@ use units::Refusal;
 use units::Signed;
 ghost use mathlib.Core.Path.{_≡_};
 ghost use Prim.Native.Nat.{_+_, _*_, _-_, _/_, _≤_, _<_, _^_};
-ghost use Rattle.law.specs.Document.{minute, quarter, half, circle, mirrored as mirroredArc, sine, epicycles, equationAnswer};
+ghost use Rattle.law.specs.Document.{minute, tenMinutes, quarter, half, circle, radius, mirrored as mirroredArc, folded as foldedArc, sine, epicycles, equationAnswer};
+ghost use Rattle.law.specs.Entry.{sineEntry};
+ghost use Rattle.law.specs.Round.{halfUp};
 ghost use Rattle.law.specs.Sines.{sines as sineTable};
 ghost use Rattle.law.specs.Tangents.{tangents as tangentTable};
-ghost use Rattle.motion.specs.Working.{heightOf, tangentOf, angleAnswer, sizeAnswer};
+ghost use Rattle.motion.specs.Working.{heightOf, baseOf, tangentOf, angleAnswer, sizeAnswer};
 ghost use Rattle.units.specs.Said.{saidNumber, saidSigned};
 ghost use Rattle.sun.specs.Said.{numberUpTo};
 ghost use Rattle.sun.specs.Tables.{Laid};
 
 const TEN_MINUTES: u64 = 10 * MINUTE;
 
-// The sine of an arc up to a quarter circle, from the entries below and above it.
+// The sine of an arc up to a quarter circle, from the entry below it and the step to the next.
+fn between(x: u64, below: u64, step: u64) -> u64
+    requires { ⌜ (x ≤ quarter) × (below ≡ sineEntry (x / tenMinutes)) × (step ≡ sineEntry (x / tenMinutes + 1) - sineEntry (x / tenMinutes)) ⌝ }
+    ensures { λ r. ⌜ (r ≡ sine x) × (r ≤ 10_000_000) ⌝ }
+{
+    below + step * (x % TEN_MINUTES) / TEN_MINUTES
+}
+
+// The same from the table. The last entry has no next.
 fn sine_of(x: u64, sines: &[u64; 541]) -> u64
     requires { ⌜ (x ≤ quarter) × (now sines ≡ sineTable) ⌝ }
     ensures { λ r. ⌜ (r ≡ sine x) × (r ≤ 10_000_000) ⌝ }
@@ -31,28 +41,26 @@ fn sine_of(x: u64, sines: &[u64; 541]) -> u64
     if k == 540 {
         return below;
     }
-    below + (sines[k + 1] - below) * (x % TEN_MINUTES) / TEN_MINUTES
+    between(x, below, sines[k + 1] - below)
 }
 
-// Step 1, at an arc from the perigee or the apogee, up to a quarter circle. The base is the height at its complement.
-fn height(x: u64, sines: &[u64; 541]) -> u64
-    requires { ⌜ (x ≤ quarter) × (now sines ≡ sineTable) ⌝ }
-    ensures { λ r. ⌜ (r ≡ heightOf epicycles x) × (r ≤ 179_208) ⌝ }
+// Step 1: the height from an arc's sine, the base from its cosine.
+fn height(sine: u64) -> u64
+    requires { ⌜ sine ≤ 10_000_000 ⌝ }
+    ensures { λ r. ⌜ (r ≡ halfUp (epicycles * sine) radius) × (r ≤ 179_208) ⌝ }
 {
-    units::half_up(EPICYCLES * sine_of(x, sines), RADIUS)
+    units::half_up(EPICYCLES * sine, RADIUS)
 }
 
-// Steps 2 and 3: the arc from the perigee, up to a half circle.
-fn tangent(u: u64, sines: &[u64; 541]) -> u64
-    requires { ⌜ (u ≤ half) × (now sines ≡ sineTable) ⌝ }
+// Steps 2 and 3, at an arc from the perigee up to a half circle.
+fn tangent(u: u64, height: u64, base: u64) -> u64
+    requires { ⌜ (u ≤ half) × (height ≡ heightOf epicycles (foldedArc u)) × (base ≡ baseOf epicycles (foldedArc u)) × (height ≤ 179_208) × (base ≤ 179_208) ⌝ }
     ensures { λ r. ⌜ r ≡ tangentOf epicycles u ⌝ }
 {
     if u <= QUARTER {
-        let near = height(u, sines);
-        return units::half_up(2 * near * RADIUS, RADIUS - height(QUARTER - u, sines));
+        return units::half_up(2 * height * RADIUS, RADIUS - base);
     }
-    let far = height(HALF - u, sines);
-    units::half_up(2 * far * RADIUS, RADIUS + height(u - QUARTER, sines))
+    units::half_up(2 * height * RADIUS, RADIUS + base)
 }
 
 // Step 4. Steps of 2,908 to 2,914 put the minute at t / 2,914 or one further.
@@ -95,12 +103,42 @@ fn mirrored(a: u64) -> u64
     CIRCLE - a
 }
 
-// The size of the equation at an anomaly in the circle.
+// The arc from the perigee or the apogee, whichever is nearer.
+fn folded(u: u64) -> u64
+    requires { ⌜ u ≤ half ⌝ }
+    ensures { λ r. ⌜ (r ≡ foldedArc u) × (r ≤ quarter) ⌝ }
+{
+    if u <= QUARTER {
+        return u;
+    }
+    HALF - u
+}
+
+// The size of the equation at an anomaly in the circle, from both tables.
 pub(crate) fn size_at(a: u64, sines: &[u64; 541], tangents: &[u64; 131]) -> Number
     requires { ⌜ (a < circle) × Laid (now sines) (now tangents) ⌝ }
     ensures { λ r. ⌜ (saidNumber r ≡ sizeAnswer epicycles a) × numberUpTo 468_000_000_000 r ⌝ }
 {
-    angle_of(tangent(mirrored(a), sines), tangents)
+    let u = mirrored(a);
+    let x = folded(u);
+    let near = height(sine_of(x, sines));
+    let base = height(sine_of(QUARTER - x, sines));
+    angle_of(tangent(u, near, base), tangents)
+}
+
+// The same for a call that needs one: two sums are added up, and no table of sines is rebuilt.
+pub(crate) fn size_by_adding(a: u64) -> Number
+    requires { ⌜ a < circle ⌝ }
+    ensures { λ r. ⌜ (saidNumber r ≡ sizeAnswer epicycles a) × numberUpTo 468_000_000_000 r ⌝ }
+{
+    let u = mirrored(a);
+    let x = folded(u);
+    let y = QUARTER - x;
+    let found = tables::two_sine_entries((x / TEN_MINUTES) as usize, (y / TEN_MINUTES) as usize);
+    let near = height(between(x, found.first.entry, found.first.step));
+    let base = height(between(y, found.second.entry, found.second.step));
+    let tangents = tables::tangent_table();
+    angle_of(tangent(u, near, base), &tangents)
 }
 
 // The equation at any anomaly, in units: step 5 adds it below the half circle and takes it away from there on.
@@ -108,9 +146,7 @@ pub fn equation_at(anomaly: i64) -> Signed
     ensures { λ r. ⌜ saidSigned r ≡ equationAnswer epicycles anomaly ⌝ }
 {
     let a = units::in_circle(anomaly);
-    let sines = tables::sine_table();
-    let tangents = tables::tangent_table();
-    match size_at(a, &sines, &tangents) {
+    match size_by_adding(a) {
         Number::Is(size) => {
             if a < HALF {
                 Signed::Is(size as i64)

@@ -6,17 +6,20 @@ use crate::constants::PERIGEE_DAILY;
 use crate::constants::PERIGEE_EPOCH;
 use crate::constants::PERIGEE_YEARLY;
 use crate::equation::size_at;
+use crate::equation::size_by_adding;
 use crate::year::root_of;
 use units::Number;
 use units::Refusal;
 use units::Signed;
 ghost use mathlib.Core.Path.{_≡_};
 ghost use Prim.Native.Nat.{_≤_, _<_};
+ghost use Rattle.reasoning.specs.Answer.{part};
 ghost use Rattle.law.specs.Document.{circle, epicycles, meanAnswer, trueAnswer, runOnAnswer};
 ghost use Rattle.motion.specs.Working.{rootOf, anomalyOf, placeAnswer};
 ghost use Rattle.units.specs.Said.{saidNumber, saidSigned};
 ghost use Rattle.sun.specs.YearAndDay.{midnightAnswer, liftedAnswer};
 ghost use Rattle.sun.specs.Said.{saidMidnight, numberUpTo};
+ghost use Rattle.sun.specs.Moved.{movedBy};
 ghost use Rattle.sun.specs.Tables.{Laid};
 
 // What the anomaly gains in a day.
@@ -42,6 +45,23 @@ fn anomaly(y: u64, root: u64, j: u64) -> u64
     (root + (ANOMALY_LIFT - y * PERIGEE_YEARLY) + j * GAIN) % CIRCLE
 }
 
+// Step 5 on a lifted mean place: the equation's size is added below the half circle and taken away from there on.
+fn moved(mean: u64, a: u64, size: Number) -> Number
+    requires { ⌜ (468_000_000_000 ≤ mean) × (mean ≤ 89_000_000_000_000) × numberUpTo 468_000_000_000 size ⌝ }
+    ensures { λ r. ⌜ (saidNumber r ≡ part (movedBy mean a) (saidNumber size)) × numberUpTo 90_000_000_000_000 r ⌝ }
+{
+    match size {
+        Number::Is(size) => {
+            if a < HALF {
+                Number::Is(mean + size)
+            } else {
+                Number::Is(mean - size)
+            }
+        }
+        Number::Refused(refusal) => Number::Refused(refusal),
+    }
+}
+
 // The run-on place, lifted.
 pub(crate) fn lifted_place(
     y: u64,
@@ -54,17 +74,7 @@ pub(crate) fn lifted_place(
     ensures { λ r. ⌜ (saidNumber r ≡ placeAnswer epicycles y j) × numberUpTo 90_000_000_000_000 r ⌝ }
 {
     let a = anomaly(y, root, j);
-    let mean = root + HEADROOM + j * DAILY;
-    match size_at(a, sines, tangents) {
-        Number::Is(size) => {
-            if a < HALF {
-                Number::Is(mean + size)
-            } else {
-                Number::Is(mean - size)
-            }
-        }
-        Number::Refused(refusal) => Number::Refused(refusal),
-    }
+    moved(root + HEADROOM + j * DAILY, a, size_at(a, sines, tangents))
 }
 
 // A year and a day, each counted from the least allowed on.
@@ -91,9 +101,9 @@ fn lifted_at(n: i64, d: i64) -> Number
 {
     match midnight_at(n, d) {
         Midnight::Is(y, j) => {
-            let sines = tables::sine_table();
-            let tangents = tables::tangent_table();
-            lifted_place(y, root_of(y), j, &sines, &tangents)
+            let root = root_of(y);
+            let a = anomaly(y, root, j);
+            moved(root + HEADROOM + j * DAILY, a, size_by_adding(a))
         }
         Midnight::Refused(refusal) => Number::Refused(refusal),
     }

@@ -3,6 +3,7 @@ use mathlib.Core.Path.{refl}
 use Rattle.reasoning.proofs.HeldFast.{Held, by-facts, one}
 use Rattle.tables.proofs.sine_entry as sine-entry
 use Rattle.tables.proofs.tangent_entry as tangent-entry
+use Rattle.tables.proofs.two_sine_entries as two-sine-entries
 use Rattle.tables.proofs.sine_table as sine-table
 use Rattle.tables.proofs.tangent_table as tangent-table
 
@@ -11,6 +12,9 @@ sine-entry-held M 𝓤 H A mem run κs a = by-facts 𝓤 (λ z z′ w w′ p q. 
 
 pub tangent-entry-held : Held tangent-entry.ended (λ M. tangent-entry.clauses {M = M})
 tangent-entry-held M 𝓤 H A mem run κs a = by-facts 𝓤 (λ z z′ w w′ p q. (one p q, refl))
+
+pub two-sine-entries-held : Held two-sine-entries.ended (λ M. two-sine-entries.clauses {M = M})
+two-sine-entries-held M 𝓤 H A mem run κs a = by-facts 𝓤 (λ z z′ w w′ p q. (one p q, refl))
 
 pub sine-table-held : Held sine-table.ended (λ M. sine-table.clauses {M = M})
 sine-table-held M 𝓤 H A mem run κs a = by-facts 𝓤 (λ z z′ w w′ p q. (one p q, refl))

@@ -1,40 +1,41 @@
 -- The places as answers, from their working forms: what the code has worked out is what the document answers. Assumes nothing.
+use mathlib.Core.Bool.{Bool, true, false, cond}
 use mathlib.Core.Path.{_≡_, refl, ap, _∙_}
-use Prim.Native.Nat.{ℕ, _+_, _*_, _-_, _%_, _≤_, _<_}
+use Prim.Native.Nat.{ℕ, _+_, _*_, _-_, _%_}
 use native.Mathlib.Omega.{arith}
-use borrow.Author.Tests.{lt-ltb, le-ltb}
+use lib.Dec.{ltb}
 use lib.IntN.{ℤ, pos, natAbs, _+ℤ_}
 use Rattle.reasoning.proofs.Whole.{Is, is-pos, is-add, is-abs, same}
 use Rattle.reasoning.proofs.Indexed.{Indexed, indexed}
 use Rattle.law.specs.Round.{floorMod}
-use Rattle.reasoning.specs.Answer.{value, refused}
+use Rattle.reasoning.specs.Answer.{Answer, value, refused, refusing, part}
 use Rattle.law.specs.Document.{circle, half, dailyMotion, inCircle, anomaly, tangent, angle, runOnPlace, badYear, badDay, offTable, meanAnswer, trueAnswer, runOnAnswer}
-use Rattle.reasoning.proofs.Answers.{passed, stopped, PassedAll, passed-all, passed-on}
+use Rattle.reasoning.proofs.Answers.{PassedAll, passed-all, passed-on}
 use Rattle.law.proofs.Floor.{mod-is}
 use Rattle.motion.specs.Working.{rootOf, sizeAnswer, added, taken, anomalyOf, headroom, lift, placeOf, placeAnswer}
 use Rattle.motion.proofs.Bridge.{anomaly-is, run-on-is, mean-in-circle}
+use Rattle.sun.specs.Moved.{movedBy}
 use Rattle.sun.specs.YearAndDay.{liftedAnswer}
 
--- ---- the lifted place, from the size at the anomaly a; `size` is a size there, or the number of a refusal
+-- ---- the lifted place: the mean place moved by what is said of the size at the anomaly a
 
-module _ (e y j a size : ℕ) (h : a ≡ anomalyOf y j) where
-  pub place-added : value size ≡ sizeAnswer e a → a < half → value (rootOf y + headroom + j * dailyMotion + size) ≡ placeAnswer e y j
-  unfolding sizeAnswer placeAnswer placeOf added taken
-  place-added s l =
-      let p = passed (offTable e a) 5 (angle (tangent e a)) s in
-      rw (← h, p .test, lt-ltb _ _ l, p .is) (ap value (omega arith))
+module _ (e y j : ℕ) {root a : ℕ} {said : Answer ℕ} where
+  pub place-moved : a ≡ anomalyOf y j → root ≡ rootOf y → said ≡ sizeAnswer e a
+      → part (movedBy (root + headroom + j * dailyMotion) a) said ≡ placeAnswer e y j
+  unfolding sizeAnswer placeAnswer placeOf added taken movedBy
+  place-moved h r s = rw (s, r, h) (go (offTable e (anomalyOf y j)) (ltb (anomalyOf y j) half))
+    where
+      mean : ℕ
+      mean = rootOf y + headroom + j * dailyMotion
 
-  pub place-taken : value size ≡ sizeAnswer e a → half ≤ a → value (rootOf y + headroom + j * dailyMotion - size) ≡ placeAnswer e y j
-  unfolding sizeAnswer placeAnswer placeOf added taken
-  place-taken s l =
-      let p = passed (offTable e a) 5 (angle (tangent e a)) s in
-      rw (← h, p .test, le-ltb _ _ l, p .is) (ap value (omega arith))
+      size : ℕ
+      size = angle (tangent e (anomalyOf y j))
 
-  pub place-refused : refused size ≡ sizeAnswer e a → refused size ≡ placeAnswer e y j
-  unfolding sizeAnswer placeAnswer
-  place-refused s =
-      let p = stopped (offTable e a) 5 (angle (tangent e a)) s in
-      rw (← h, p .test, p .is) refl
+      go : (off below : Bool) → part (λ (n : ℕ). cond below (mean + n) (mean - n)) (refusing off 5 (value size))
+          ≡ refusing off 5 (value (mean + cond below size 0 - cond below 0 size))
+      go true below = refl
+      go false true = ap value (omega arith)
+      go false false = ap value (omega arith)
 
 -- ---- the document's answers, for a year and a day in range
 

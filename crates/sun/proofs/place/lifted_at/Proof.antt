@@ -1,13 +1,16 @@
--- The lifted place at a midnight in range; a refusal of its year or day is passed on. Assumes nothing.
+-- The mean place moved by one equation, at a midnight in range; a refusal of its year or day is passed on. Assumes nothing.
 use mathlib.Core.Path.{_∙_}
+use Prim.Native.Nat.{_≤_}
+use native.Mathlib.Omega.{arith}
 use borrow.Author.Needs.{needs}
 use Rattle.reasoning.specs.Answer.{value, refusing}
-use Rattle.law.specs.Document.{epicycles, anomaly, runOnPlace, offTable}
+use Rattle.law.specs.Document.{epicycles, dailyMotion, anomaly, runOnPlace, offTable}
 use lib.IntN.{pos, natAbs, _+ℤ_}
 use Rattle.reasoning.proofs.Indexed.{Indexed}
 use Rattle.motion.specs.Working.{lift}
+use Rattle.motion.proofs.Root.{root-of-le}
 use Rattle.sun.specs.YearAndDay.{liftedAnswer}
-use Rattle.sun.proofs.place.Places.{lifted-place}
+use Rattle.sun.proofs.place.Places.{place-moved, lifted-place}
 use Rattle.sun.proofs.place.Midnights.{midnight-known, midnight-refused}
 use Rattle.sun.proofs.place.lifted_at.Statement.{statement}
 use Rattle.sun.proofs.place.lifted_at.Tie as tie
@@ -24,28 +27,45 @@ midnight-at-requires c κs = search needs
 enum-known-y : tie.Need-enum-known-y
 enum-known-y c = search needs
 
-sine-table-requires : tie.Need-sine-table-requires
-sine-table-requires c κs = search needs
-
-tangent-table-requires : tie.Need-tangent-table-requires
-tangent-table-requires c κs = search needs
+-- the year and the day, and the root
+at : (c : tie.After-root-of) → (c .root-of .result ≤ dailyMotion) × (c .before .before .y .given .0 .1 .0 ≤ 374)
+at c = let y = c .before .before in (omega (arith, c .root-of .ensures .0, root-of-le (y .y .given .0 .0)), in-range y .1 .most)
 
 root-of-requires : tie.Need-root-of-requires
-root-of-requires c κs = in-range (c .before .before .before) .0 .most
+root-of-requires c κs = in-range (c .before) .0 .most
 
-lifted-place-requires : tie.Need-lifted-place-requires
-lifted-place-requires c κs =
-    let i = in-range (c .before .before .before .before .before .before) in
-    (i .0 .most, c .before .before .root-of .ensures .0, i .1 .most, (c .before .before .before .before .sine-table .ensures, c .before .before .before .tangent-table .ensures))
+anomaly-requires : tie.Need-anomaly-requires
+anomaly-requires c κs = let i = in-range (c .before .before) in (i .0 .most, c .root-of .ensures .0, i .1 .most)
+
+add-moved : tie.Need-add-moved
+add-moved c = let w = at (c .before) in search needs
+
+mul-moved : tie.Need-mul-moved
+mul-moved c = let w = at (c .before) in search needs
+
+add-moved-2 : tie.Need-add-moved-2
+add-moved-2 c = let w = at (c .before) in search needs
+
+size-by-adding-requires : tie.Need-size-by-adding-requires
+size-by-adding-requires c κs = search needs
+
+moved-requires : tie.Need-moved-requires
+moved-requires c κs = let w = at (c .before .before) in (omega arith, omega arith, c .size-by-adding .ensures .1)
 
 enum-known-refusal : tie.Need-enum-known-refusal
 enum-known-refusal c = search needs
 
 returns : tie.Need-returns
 returns c =
-    let start = c .before .before .before .before .before .before .before .before .before .before in
-    let i = in-range (c .before .before .before .before .before .before .before) in
-    (c .lifted-place .ensures .0 ∙ lifted-place (start .args .n) (start .args .d) (i .0) (i .1) epicycles, c .lifted-place .ensures .1)
+    let root = c .before .before .before in
+    let y = root .before .before in
+    let start = y .before .before .before in
+    let i = in-range y in (
+      c .moved .ensures .0
+          ∙ (place-moved epicycles (y .y .given .0 .0) (y .y .given .0 .1 .0) (c .before .before .anomaly .ensures .0) (root .root-of .ensures .0) (c .before .size-by-adding .ensures .0)
+          ∙ lifted-place (start .args .n) (start .args .d) (i .0) (i .1) epicycles),
+      c .moved .ensures .1,
+    )
 
 returns-2 : tie.Need-returns-2
 unfolding liftedAnswer
@@ -60,4 +80,16 @@ returns-2 c =
 pub lifted-at-spec : {M : Type 1} → statement M
 lifted-at-spec =
     tie.close
-    (tie.spec midnight-at-requires enum-known-y sine-table-requires tangent-table-requires root-of-requires lifted-place-requires enum-known-refusal returns returns-2)
+    (tie.spec
+    midnight-at-requires
+    enum-known-y
+    root-of-requires
+    anomaly-requires
+    add-moved
+    mul-moved
+    add-moved-2
+    size-by-adding-requires
+    moved-requires
+    enum-known-refusal
+    returns
+    returns-2)
