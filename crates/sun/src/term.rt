@@ -128,7 +128,8 @@ fn find_at(n: i64, k: u64) -> Walked
     if 23 < k {
         return Walked::Refused(Refusal::TermAbove);
     }
-    let sines = tables::sine_table();
+    let mut sines = [0; 541];
+    tables::rebuild_sines(&mut sines);
     let tangents = tables::tangent_table();
     find(y, root_of(y), k, &sines, &tangents)
 }

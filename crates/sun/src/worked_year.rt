@@ -46,7 +46,8 @@ fn worked_in(y: u64, year: Year) -> WorkedYear
     requires { ⌜ (y ≤ 4_000) × (year .root ≡ rootOf y) ⌝ }
     ensures { λ r. ⌜ WorkedIn y year r ⌝ }
 {
-    let sines = tables::sine_table();
+    let mut sines = [0; 541];
+    tables::rebuild_sines(&mut sines);
     let tangents = tables::tangent_table();
     let root = year.root;
     let mut terms = [ZERO_RECORD; 24];

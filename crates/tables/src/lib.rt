@@ -104,22 +104,30 @@ fn put_entry(table: &mut [u64; 541], steps: &[u16; 540], k: usize, entry: u64) -
     entry + steps[k] as u64
 }
 
-// The whole table, rebuilt, for a call that reads many entries. Four of them in one turn take two thirds of the time.
-pub fn sine_table() -> [u64; 541]
-    ensures { λ r. ⌜ r ≡ sines ⌝ }
+// The whole table, rebuilt where it is to stand, for a call that reads many entries. Four in one turn take two thirds of the time.
+pub fn rebuild_sines(table: &mut [u64; 541])
+    ensures { λ _. ⌜ now (table .exit) ≡ sines ⌝ }
 {
     let steps = sine_steps();
-    let mut table = [0; 541];
+    *table = [0; 541];
     let mut entry: u64 = 0;
     let mut k: usize = 0;
     while k < 540 {
-        entry = put_entry(&mut table, &steps, k, entry);
-        entry = put_entry(&mut table, &steps, k + 1, entry);
-        entry = put_entry(&mut table, &steps, k + 2, entry);
-        entry = put_entry(&mut table, &steps, k + 3, entry);
+        entry = put_entry(table, &steps, k, entry);
+        entry = put_entry(table, &steps, k + 1, entry);
+        entry = put_entry(table, &steps, k + 2, entry);
+        entry = put_entry(table, &steps, k + 3, entry);
         k += 4;
     }
     table[540] = entry;
+}
+
+// The same by value.
+pub fn sine_table() -> [u64; 541]
+    ensures { λ r. ⌜ r ≡ sines ⌝ }
+{
+    let mut table = [0; 541];
+    rebuild_sines(&mut table);
     table
 }
 

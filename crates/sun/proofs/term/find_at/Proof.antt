@@ -35,26 +35,26 @@ returns-2 : tie.Need-returns-2
 unfolding findAnswer
 returns-2 c = (rw (in-range (c .before .before) .test, lt-ltb _ _ (c .if1 .taken)) refl, tt)
 
-sine-table-requires : tie.Need-sine-table-requires
-sine-table-requires c κs = search needs
+rebuild-sines-requires : tie.Need-rebuild-sines-requires
+rebuild-sines-requires c κs = search needs
 
 tangent-table-requires : tie.Need-tangent-table-requires
 tangent-table-requires c κs = search needs
 
 root-of-requires : tie.Need-root-of-requires
-root-of-requires c κs = in-range (c .before .before .before .before) .most
+root-of-requires c κs = in-range (c .before .before .before .before .before) .most
 
 find-requires : tie.Need-find-requires
 find-requires c κs =
-    (in-range (c .before .before .before .before .before .before .before) .most, c .before .before .root-of .ensures .0, c .before .before .before .before .before .if1 .left, (c .before .before .before .before .sine-table .ensures, c .before .before .before .tangent-table .ensures))
+    (in-range (c .before .before .before .before .before .before .before .before) .most, c .before .before .root-of .ensures .0, c .before .before .before .before .before .before .if1 .left, (c .before .before .before .before .rebuild-sines .ensures, c .before .before .before .tangent-table .ensures))
 
 returns-3 : tie.Need-returns-3
 returns-3 c =
-    let start = c .before .before .before .before .before .before .before .before .before .before .before in
-    let n = in-range (c .before .before .before .before .before .before .before .before) in
+    let start = c .before .before .before .before .before .before .before .before .before .before .before .before in
+    let n = in-range (c .before .before .before .before .before .before .before .before .before) in
     (c .find .ensures .0 ∙ found-value epicycles (start .args .n) n (start .args .k) (omega arith), c .find .ensures .1)
 
 pub find-at-spec : {M : Type 1} → statement M
 find-at-spec =
     tie.close
-    (tie.spec year-index-requires enum-known-y enum-told returns returns-2 sine-table-requires tangent-table-requires root-of-requires find-requires returns-3)
+    (tie.spec year-index-requires enum-known-y enum-told returns returns-2 rebuild-sines-requires tangent-table-requires root-of-requires find-requires returns-3)

@@ -20,19 +20,19 @@ Inv-loop y year sines tangents root terms₀ k₀ terms k = (k ≤ 24) × (lengt
 abbrev μ-loop : tie.MeasureT-loop
 μ-loop y year sines tangents root terms₀ k₀ terms k = 24 - k
 
-sine-table-requires : tie.Need-sine-table-requires Inv-loop μ-loop
-sine-table-requires c κs = search needs
+rebuild-sines-requires : tie.Need-rebuild-sines-requires Inv-loop μ-loop
+rebuild-sines-requires c κs = search needs
 
 tangent-table-requires : tie.Need-tangent-table-requires Inv-loop μ-loop
 tangent-table-requires c κs = search needs
 
 loop-holds : tie.Need-loop-holds Inv-loop μ-loop
-loop-holds c = (omega arith, refl, filled-none valuesOfTerm (termOf epicycles (c .before .before .args .y)) zeroRecord (replicate 24 zeroRecord))
+loop-holds c = (omega arith, refl, filled-none valuesOfTerm (termOf epicycles (c .before .before .before .args .y)) zeroRecord (replicate 24 zeroRecord))
 
 term-in-requires : tie.Need-term-in-requires Inv-loop μ-loop
 term-in-requires c κs =
-    let start = c .before .before .before .before .before .before in
-    (start .pre .0, start .pre .1, omega arith, (c .before .before .before .before .before .sine-table .ensures, c .before .before .before .before .tangent-table .ensures))
+    let start = c .before .before .before .before .before .before .before in
+    (start .pre .0, start .pre .1, omega arith, (c .before .before .before .before .before .rebuild-sines .ensures, c .before .before .before .before .tangent-table .ensures))
 
 enum-known-term : tie.Need-enum-known-term Inv-loop μ-loop
 enum-known-term c = search needs
@@ -51,7 +51,7 @@ refused-year-requires c κs = search needs
 
 returns : tie.Need-returns Inv-loop μ-loop
 returns c =
-    let y = c .before .before .before .before .before .before .before .before .before .before .before .args .y in
+    let y = c .before .before .before .before .before .before .before .before .before .before .before .before .args .y in
     let k = c .before .before .before .before .before .before .before .before .loop .k in
     absurd
     (never (subst (λ r. saidTerm r ≡ value (termOf epicycles y k)) (c .before .before .refusal .given .1) (c .before .before .before .before .term-in .ensures)))
@@ -64,7 +64,7 @@ loop-less c = search needs
 
 loop-again : tie.Need-loop-again Inv-loop μ-loop
 loop-again c =
-    let y = c .before .before .before .before .before .before .before .before .before .before .args .y in
+    let y = c .before .before .before .before .before .before .before .before .before .before .before .args .y in
     let l = c .before .before .before .before .before .before .before .loop in
     let term = c .before .term .given .0 .0 in (
       omega arith,
@@ -75,7 +75,7 @@ loop-again c =
 
 returns-2 : tie.Need-returns-2 Inv-loop μ-loop
 returns-2 c =
-    let y = c .before .before .before .before .args .y in
+    let y = c .before .before .before .before .before .args .y in
     let l = c .before .loop in
     let e : l .k ≡ 24 = omega arith in
     record {
@@ -90,7 +90,7 @@ worked-in-spec =
     (tie.spec
     Inv-loop
     μ-loop
-    sine-table-requires
+    rebuild-sines-requires
     tangent-table-requires
     loop-holds
     term-in-requires

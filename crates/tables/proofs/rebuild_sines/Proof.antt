@@ -3,18 +3,18 @@ use mathlib.Core.Path.{_≡_, refl, sym, subst}
 use Prim.Native.Nat.{_+_, _-_, _%_, _≤_}
 use native.Mathlib.Omega.{arith}
 use borrow.Author.Needs.{needs}
-use Rattle.law.specs.Entry.{lastSine, sineEntry}
+use Rattle.law.specs.Entry.{lastSine}
 use Rattle.law.proofs.Rules.{sine-ends}
 use Rattle.tables.specs.Steps.{Rebuilt}
 use Rattle.tables.proofs.Adding.{last-one}
-use Rattle.tables.proofs.sine_table.Statement.{statement}
-use Rattle.tables.proofs.sine_table.Tie as tie
+use Rattle.tables.proofs.rebuild_sines.Statement.{statement}
+use Rattle.tables.proofs.rebuild_sines.Tie as tie
 
 abbrev Inv-loop : tie.InvT-loop
-Inv-loop steps table₀ entry₀ k₀ table entry k = (k ≤ lastSine) × (k % 4 ≡ 0) × Rebuilt table entry k
+Inv-loop table₀ steps entry₀ k₀ table entry k = (k ≤ lastSine) × (k % 4 ≡ 0) × Rebuilt table entry k
 
 abbrev μ-loop : tie.MeasureT-loop
-μ-loop steps table₀ entry₀ k₀ table entry k = lastSine - k
+μ-loop table₀ steps entry₀ k₀ table entry k = lastSine - k
 
 sine-steps-requires : tie.Need-sine-steps-requires Inv-loop μ-loop
 sine-steps-requires c κs = search needs
@@ -63,14 +63,14 @@ loop-again c =
     let e : k + 3 + 1 ≡ k + 4 = omega arith in
     (omega arith, omega arith, subst (Rebuilt _ _) e (c .put-entry4 .ensures))
 
-array-write-table : tie.Need-array-write-table Inv-loop μ-loop
-array-write-table c = search needs
+element-write-table : tie.Need-element-write-table Inv-loop μ-loop
+element-write-table c = search needs
 
 returns : tie.Need-returns Inv-loop μ-loop
 returns c = let l = c .before .loop in last-one (l .k) (omega arith) (l .inv .2)
 
-pub sine-table-spec : {M : Type 1} → statement M
-sine-table-spec =
+pub rebuild-sines-spec : {M : Type 1} → statement M
+rebuild-sines-spec =
     tie.close
     (tie.spec
     Inv-loop
@@ -87,5 +87,5 @@ sine-table-spec =
     add-k
     loop-less
     loop-again
-    array-write-table
+    element-write-table
     returns)
