@@ -104,7 +104,8 @@ fn put_entry(table: &mut [u64; 541], steps: &[u16; 540], k: usize, entry: u64) -
     entry + steps[k] as u64
 }
 
-// The whole table, rebuilt where it is to stand, for a call that reads many entries. Four in one turn take two thirds of the time.
+// The whole table, rebuilt where it is to stand, for a call that reads many entries. What stood there goes first, so that the table's
+// length is known; the compiler then leaves out the caller's own zeros. Four entries in one turn take two thirds of the time.
 pub fn rebuild_sines(table: &mut [u64; 541])
     ensures { λ _. ⌜ now (table .exit) ≡ sines ⌝ }
 {
