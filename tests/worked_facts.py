@@ -1,4 +1,4 @@
-"""The facts worked out in the Worked*.antt of law/proofs and corrections/proofs, as rows of those files, by the rules of documents 01
+"""The facts worked out in the Worked*.antt of law/proofs, tables/proofs and corrections/proofs, as rows of those files, by the rules of documents 01
 and 02 alone: the calls are chosen here, and what each answers is reckoned by expected.py and term_book.py. Shares nothing with the Rattle sources.
 
     python3 tests/worked_facts.py   prints the rows, file by file
@@ -516,6 +516,25 @@ def edges():
     yield "local-minute-after", local(0, 1439, 15 * 60 - 7)
 
 
+def steps_of(table):
+    return [after - before for before, after in zip(table, table[1:])]
+
+
+def seat(k):
+    """The entry at a seat and the step from it: past the last entry nothing."""
+    entries = expected.SINES[k : k + 2]
+    steps = steps_of(entries)
+    return f"seat {entries[0] if entries else 0:_} {steps[0] if steps else 0:_}"
+
+
+def steps():
+    for table in ([], [5], [5, 7], expected.SINES[:3]):
+        yield f"steps-of-{len(table)}", f"stepsOf ({listed(table)}) ≡ {listed(steps_of(table))}"
+    for k in (0, 1, 539, 540, 541):
+        yield f"seat-{k}", f"entryAndStep {k} ≡ {seat(k)}"
+    yield "two-seats", f"twoEntries 1 539 ≡ both ({seat(1)}) ({seat(539)})"
+
+
 def lines():
     for written, name in REFUSED_TEXTS.items():
         yield f"{name} = {listed(written)}"
@@ -657,6 +676,7 @@ WORKED_FILES = {
     "law/proofs/WorkedOrders": orders,
     "law/proofs/WorkedLimits": limits,
     "law/proofs/WorkedEdges": edges,
+    "tables/proofs/WorkedSteps": steps,
     "corrections/proofs/WorkedCorrections": corrections,
 }
 

@@ -1,3 +1,4 @@
 pub mod Adding
 pub mod Entries
 pub mod HeldFast
+pub mod WorkedSteps
