@@ -532,7 +532,8 @@ def steps():
         yield f"steps-of-{len(table)}", f"stepsOf ({listed(table)}) ≡ {listed(steps_of(table))}"
     for k in (0, 1, 539, 540, 541):
         yield f"seat-{k}", f"entryAndStep {k} ≡ {seat(k)}"
-    yield "two-seats", f"twoEntries 1 539 ≡ both ({seat(1)}) ({seat(539)})"
+    for k, j in ((1, 2), (540, 1)):
+        yield f"seats-{k}-{j}", f"twoEntries {k} {j} ≡ both ({seat(k)}) ({seat(j)})"
 
 
 def lines():

@@ -17,7 +17,7 @@ sine-last x h e =
     rw m (mul-zero (sineEntry (x / tenMinutes + 1) - sineEntry (x / tenMinutes))) in
     omega arith
 
--- from the entry below and the step to the next, which is 0 at the last entry
+-- no step is longer than the first; at the last entry it is 0
 step-most : (k : ℕ) → sineEntry (k + 1) - sineEntry k ≤ 29_089
 step-most k = go (decLt k lastSine)
   where
@@ -25,6 +25,7 @@ step-most k = go (decLt k lastSine)
     go (yes l) = omega (arith, sine-step k l)
     go (no l) = omega (arith, sine-past (k + 1) (omega arith))
 
+-- from the entry below and the step to the next
 pub record Between (x below step : ℕ) : Type 0 where
   pub fits : step * (x % tenMinutes) < 2 ^ 60
   pub part : step * (x % tenMinutes) / tenMinutes ≤ step

@@ -26,7 +26,7 @@ pub mirrored-high : (a : ℕ) → half < a → mirrored a ≡ circle - a
 unfolding mirrored
 mirrored-high a h = rw (lt-leb _ _ h) refl
 
--- an arc from the perigee is folded by itself
+-- an arc from the perigee, up to a half circle, is its own mirrored arc
 pub folded-near : (u : ℕ) → u ≤ quarter → folded u ≡ u
 unfolding folded
 folded-near u h = let low : u ≤ half = omega arith in rw (mirrored-low u low, le-leb _ _ h) refl

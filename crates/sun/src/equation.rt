@@ -11,7 +11,7 @@ use units::Refusal;
 use units::Signed;
 ghost use mathlib.Core.Path.{_≡_};
 ghost use Prim.Native.Nat.{_+_, _*_, _-_, _/_, _≤_, _<_, _^_};
-ghost use Rattle.law.specs.Document.{minute, tenMinutes, quarter, half, circle, radius, mirrored as mirroredArc, folded as foldedArc, sine, epicycles, equationAnswer};
+ghost use Rattle.law.specs.Document.{minute, tenMinutes, quarter, half, circle, radius, mirrored as mirroredArc, folded as foldedArc, sine as sineOf, cosine as cosineOf, epicycles, equationAnswer};
 ghost use Rattle.law.specs.Entry.{sineEntry};
 ghost use Rattle.law.specs.Round.{halfUp};
 ghost use Rattle.law.specs.Sines.{sines as sineTable};
@@ -26,7 +26,7 @@ const TEN_MINUTES: u64 = 10 * MINUTE;
 // The sine of an arc up to a quarter circle, from the entry below it and the step to the next.
 fn between(x: u64, below: u64, step: u64) -> u64
     requires { ⌜ (x ≤ quarter) × (below ≡ sineEntry (x / tenMinutes)) × (step ≡ sineEntry (x / tenMinutes + 1) - sineEntry (x / tenMinutes)) ⌝ }
-    ensures { λ r. ⌜ (r ≡ sine x) × (r ≤ 10_000_000) ⌝ }
+    ensures { λ r. ⌜ (r ≡ sineOf x) × (r ≤ 10_000_000) ⌝ }
 {
     below + step * (x % TEN_MINUTES) / TEN_MINUTES
 }
@@ -34,7 +34,7 @@ fn between(x: u64, below: u64, step: u64) -> u64
 // The same from the table. The last entry has no next.
 fn sine_of(x: u64, sines: &[u64; 541]) -> u64
     requires { ⌜ (x ≤ quarter) × (now sines ≡ sineTable) ⌝ }
-    ensures { λ r. ⌜ (r ≡ sine x) × (r ≤ 10_000_000) ⌝ }
+    ensures { λ r. ⌜ (r ≡ sineOf x) × (r ≤ 10_000_000) ⌝ }
 {
     let k = (x / TEN_MINUTES) as usize;
     let below = sines[k];
@@ -44,8 +44,8 @@ fn sine_of(x: u64, sines: &[u64; 541]) -> u64
     between(x, below, sines[k + 1] - below)
 }
 
-// Step 1: the height from an arc's sine, the base from its cosine.
-fn height(sine: u64) -> u64
+// Step 1: the height from an arc's sine, and the base from its cosine.
+fn leg(sine: u64) -> u64
     requires { ⌜ sine ≤ 10_000_000 ⌝ }
     ensures { λ r. ⌜ (r ≡ halfUp (epicycles * sine) radius) × (r ≤ 179_208) ⌝ }
 {
@@ -114,6 +114,14 @@ fn folded(u: u64) -> u64
     HALF - u
 }
 
+// Steps 1 to 4, at an arc from the perigee up to a half circle, from the sine and the cosine of the folded arc.
+fn size_from(u: u64, sine: u64, cosine: u64, tangents: &[u64; 131]) -> Number
+    requires { ⌜ (u ≤ half) × (sine ≡ sineOf (foldedArc u)) × (cosine ≡ cosineOf (foldedArc u)) × (sine ≤ 10_000_000) × (cosine ≤ 10_000_000) × (now tangents ≡ tangentTable) ⌝ }
+    ensures { λ r. ⌜ (saidNumber r ≡ angleAnswer (tangentOf epicycles u)) × numberUpTo 468_000_000_000 r ⌝ }
+{
+    angle_of(tangent(u, leg(sine), leg(cosine)), tangents)
+}
+
 // The size of the equation at an anomaly in the circle, from both tables.
 pub(crate) fn size_at(a: u64, sines: &[u64; 541], tangents: &[u64; 131]) -> Number
     requires { ⌜ (a < circle) × Laid (now sines) (now tangents) ⌝ }
@@ -121,9 +129,7 @@ pub(crate) fn size_at(a: u64, sines: &[u64; 541], tangents: &[u64; 131]) -> Numb
 {
     let u = mirrored(a);
     let x = folded(u);
-    let near = height(sine_of(x, sines));
-    let base = height(sine_of(QUARTER - x, sines));
-    angle_of(tangent(u, near, base), tangents)
+    size_from(u, sine_of(x, sines), sine_of(QUARTER - x, sines), tangents)
 }
 
 // The same for a call that needs one: two sums are added up, and no table of sines is rebuilt.
@@ -135,10 +141,10 @@ pub(crate) fn size_by_adding(a: u64) -> Number
     let x = folded(u);
     let y = QUARTER - x;
     let found = tables::two_sine_entries((x / TEN_MINUTES) as usize, (y / TEN_MINUTES) as usize);
-    let near = height(between(x, found.first.entry, found.first.step));
-    let base = height(between(y, found.second.entry, found.second.step));
+    let sine = between(x, found.first.entry, found.first.step);
+    let cosine = between(y, found.second.entry, found.second.step);
     let tangents = tables::tangent_table();
-    angle_of(tangent(u, near, base), &tangents)
+    size_from(u, sine, cosine, &tangents)
 }
 
 // The equation at any anomaly, in units: step 5 adds it below the half circle and takes it away from there on.

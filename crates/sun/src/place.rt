@@ -12,10 +12,10 @@ use units::Number;
 use units::Refusal;
 use units::Signed;
 ghost use mathlib.Core.Path.{_≡_};
-ghost use Prim.Native.Nat.{_≤_, _<_};
+ghost use Prim.Native.Nat.{_+_, _*_, _≤_, _<_};
 ghost use Rattle.reasoning.specs.Answer.{part};
-ghost use Rattle.law.specs.Document.{circle, epicycles, meanAnswer, trueAnswer, runOnAnswer};
-ghost use Rattle.motion.specs.Working.{rootOf, anomalyOf, placeAnswer};
+ghost use Rattle.law.specs.Document.{circle, dailyMotion, epicycles, meanAnswer, trueAnswer, runOnAnswer};
+ghost use Rattle.motion.specs.Working.{rootOf, anomalyOf, headroom, placeAnswer};
 ghost use Rattle.units.specs.Said.{saidNumber, saidSigned};
 ghost use Rattle.sun.specs.YearAndDay.{midnightAnswer, liftedAnswer};
 ghost use Rattle.sun.specs.Said.{saidMidnight, numberUpTo};
@@ -43,6 +43,13 @@ fn anomaly(y: u64, root: u64, j: u64) -> u64
     ensures { λ r. ⌜ (r ≡ anomalyOf y j) × (r < circle) ⌝ }
 {
     (root + (ANOMALY_LIFT - y * PERIGEE_YEARLY) + j * GAIN) % CIRCLE
+}
+
+fn lifted_mean(root: u64, j: u64) -> u64
+    requires { ⌜ (root ≤ dailyMotion) × (j ≤ 374) ⌝ }
+    ensures { λ r. ⌜ (r ≡ root + headroom + j * dailyMotion) × (468_000_000_000 ≤ r) × (r ≤ 89_000_000_000_000) ⌝ }
+{
+    root + HEADROOM + j * DAILY
 }
 
 // Step 5 on a lifted mean place: the equation's size is added below the half circle and taken away from there on.
@@ -74,7 +81,7 @@ pub(crate) fn lifted_place(
     ensures { λ r. ⌜ (saidNumber r ≡ placeAnswer epicycles y j) × numberUpTo 90_000_000_000_000 r ⌝ }
 {
     let a = anomaly(y, root, j);
-    moved(root + HEADROOM + j * DAILY, a, size_at(a, sines, tangents))
+    moved(lifted_mean(root, j), a, size_at(a, sines, tangents))
 }
 
 // A year and a day, each counted from the least allowed on.
@@ -103,7 +110,7 @@ fn lifted_at(n: i64, d: i64) -> Number
         Midnight::Is(y, j) => {
             let root = root_of(y);
             let a = anomaly(y, root, j);
-            moved(root + HEADROOM + j * DAILY, a, size_by_adding(a))
+            moved(lifted_mean(root, j), a, size_by_adding(a))
         }
         Midnight::Refused(refusal) => Number::Refused(refusal),
     }

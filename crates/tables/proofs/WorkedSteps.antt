@@ -2,9 +2,11 @@
 -- (tests/worked_facts.py). Assumes nothing.
 use mathlib.Core.List.{[], _∷_}
 use mathlib.Core.Path.{_≡_, refl}
-use Prim.Native.Nat.{ℕ}
+use Prim.Native.Nat.{ℕ, _+_, _<_}
+use native.Mathlib.Omega.{arith}
 use Rattle.law.specs.Sines.{sines}
-use Rattle.law.specs.Entry.{sineEntry}
+use Rattle.law.specs.Entry.{lastSine, sineEntry}
+use Rattle.law.proofs.Rules.{sine-past}
 use Rattle.tables.specs.Steps.{stepsOf, entryAndStep, twoEntries}
 use Rattle.tables.specs.declared.EntryAndStep.{EntryAndStep}
 use Rattle.tables.specs.declared.TwoEntries.{TwoEntries}
@@ -27,7 +29,8 @@ pub record WorkedSteps : Type 0 where
   pub seat-539 : entryAndStep 539 ≡ seat 9_999_958 42
   pub seat-540 : entryAndStep 540 ≡ seat 10_000_000 0
   pub seat-541 : entryAndStep 541 ≡ seat 0 0
-  pub two-seats : twoEntries 1 539 ≡ both (seat 29_089 29_088) (seat 9_999_958 42)
+  pub seats-1-2 : twoEntries 1 2 ≡ both (seat 29_089 29_088) (seat 58_177 29_088)
+  pub seats-540-1 : twoEntries 540 1 ≡ both (seat 10_000_000 0) (seat 29_089 29_088)
 
 pub worked-steps : WorkedSteps
 unfolding sines sineEntry stepsOf
@@ -42,5 +45,10 @@ worked-steps =
       seat-539 = refl;
       seat-540 = refl;
       seat-541 = refl;
-      two-seats = refl;
+      seats-1-2 = refl;
+      seats-540-1 = refl;
     }
+
+-- past the last entry: for every seat
+pub nothing-past : (k : ℕ) → lastSine < k → entryAndStep k ≡ seat 0 0
+nothing-past k h = let next : lastSine < k + 1 = omega arith in rw (sine-past k h, sine-past (k + 1) next) refl

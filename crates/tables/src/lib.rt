@@ -1,5 +1,6 @@
 // The sine table (541 entries, a step of 10') and the tangent table (131, a step of 1'), for the radius 10,000,000:
-// a whole table, or one entry, which past the table's end is 0. No public function has a `requires`.
+// a whole table, one entry, or two entries of the sines with the step from each; past a table's end these are 0. No public function
+// has a `requires`.
 mod sines;
 mod tangents;
 
@@ -23,11 +24,11 @@ pub struct TwoEntries {
     pub second: EntryAndStep,
 }
 
-// A constant array is laid out on the stack wherever it is read: a call does it once, here.
-fn sine_steps() -> [u16; 540]
-    ensures { λ r. ⌜ r ≡ stepsOf sines ⌝ }
+// A constant array is laid out on the stack wherever it is read: a call does it once, here, where it is to stand.
+fn lay_steps(steps: &mut [u16; 540])
+    ensures { λ _. ⌜ now (steps .exit) ≡ stepsOf sines ⌝ }
 {
-    SINE_STEPS
+    *steps = SINE_STEPS;
 }
 
 // The entry at k: the first k steps added up. Four bytes hold it, and the compiler adds more of them at a time.
@@ -72,7 +73,8 @@ fn tangent_in(table: &[u64; 131], m: usize) -> u64
 pub fn sine_entry(k: usize) -> u64
     ensures { λ r. ⌜ r ≡ sineEntry k ⌝ }
 {
-    let steps = sine_steps();
+    let mut steps = [0; 540];
+    lay_steps(&mut steps);
     let found = entry_and_step(&steps, k);
     found.entry
 }
@@ -89,7 +91,8 @@ pub fn tangent_entry(m: usize) -> u64
 pub fn two_sine_entries(k: usize, j: usize) -> TwoEntries
     ensures { λ r. ⌜ r ≡ twoEntries k j ⌝ }
 {
-    let steps = sine_steps();
+    let mut steps = [0; 540];
+    lay_steps(&mut steps);
     let first = entry_and_step(&steps, k);
     let second = entry_and_step(&steps, j);
     TwoEntries { first, second }
@@ -104,12 +107,13 @@ fn put_entry(table: &mut [u64; 541], steps: &[u16; 540], k: usize, entry: u64) -
     entry + steps[k] as u64
 }
 
-// The whole table, rebuilt where it is to stand, for a call that reads many entries. What stood there goes first, so that the table's
-// length is known; the compiler then leaves out the caller's own zeros. Four entries in one turn take two thirds of the time.
+// The whole table, rebuilt where it is to stand, for a call that reads many entries. What stood there goes first, so that the prover
+// knows the table's length; the compiler then leaves out the caller's own zeros. Four entries in one turn take two thirds of the time.
 pub fn rebuild_sines(table: &mut [u64; 541])
     ensures { λ _. ⌜ now (table .exit) ≡ sines ⌝ }
 {
-    let steps = sine_steps();
+    let mut steps = [0; 540];
+    lay_steps(&mut steps);
     *table = [0; 541];
     let mut entry: u64 = 0;
     let mut k: usize = 0;

@@ -19,20 +19,20 @@ use Rattle.sun.specs.YearAndDay.{liftedAnswer}
 
 -- ---- the lifted place: the mean place moved by what is said of the size at the anomaly a
 
-module _ (e y j : ℕ) {root a : ℕ} {said : Answer ℕ} where
-  pub place-moved : a ≡ anomalyOf y j → root ≡ rootOf y → said ≡ sizeAnswer e a
-      → part (movedBy (root + headroom + j * dailyMotion) a) said ≡ placeAnswer e y j
+module _ (e y j : ℕ) {root a mean : ℕ} {said : Answer ℕ} where
+  pub place-moved : a ≡ anomalyOf y j → root ≡ rootOf y → mean ≡ root + headroom + j * dailyMotion → said ≡ sizeAnswer e a
+      → part (movedBy mean a) said ≡ placeAnswer e y j
   unfolding sizeAnswer placeAnswer placeOf added taken movedBy
-  place-moved h r s = rw (s, r, h) (go (offTable e (anomalyOf y j)) (ltb (anomalyOf y j) half))
+  place-moved h r m s = rw (s, m, r, h) (go (offTable e (anomalyOf y j)) (ltb (anomalyOf y j) half))
     where
-      mean : ℕ
-      mean = rootOf y + headroom + j * dailyMotion
+      lifted : ℕ
+      lifted = rootOf y + headroom + j * dailyMotion
 
       size : ℕ
       size = angle (tangent e (anomalyOf y j))
 
-      go : (off below : Bool) → part (λ (n : ℕ). cond below (mean + n) (mean - n)) (refusing off 5 (value size))
-          ≡ refusing off 5 (value (mean + cond below size 0 - cond below 0 size))
+      go : (off below : Bool) → part (λ (n : ℕ). cond below (lifted + n) (lifted - n)) (refusing off 5 (value size))
+          ≡ refusing off 5 (value (lifted + cond below size 0 - cond below 0 size))
       go true below = refl
       go false true = ap value (omega arith)
       go false false = ap value (omega arith)

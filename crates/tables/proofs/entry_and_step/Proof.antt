@@ -1,13 +1,12 @@
 -- Past the last seat both are 0; at the last entry there is no step; before it the step is the definition's. Assumes nothing.
-use mathlib.Core.Path.{_≡_, refl, ap}
+use mathlib.Core.Path.{_≡_, refl}
 use Prim.Native.Nat.{ℕ, _+_, _-_}
 use native.Mathlib.Omega.{arith}
 use lib.ListN.{getD}
 use borrow.Author.Needs.{needs}
-use Rattle.law.specs.Entry.{lastSine, sineEntry}
+use Rattle.law.specs.Entry.{sineEntry}
 use Rattle.law.proofs.Rules.{sine-past}
 use Rattle.tables.specs.Steps.{entryAndStep}
-use Rattle.tables.specs.declared.EntryAndStep.{EntryAndStep}
 use Rattle.tables.proofs.Adding.{Step, step-read}
 use Rattle.tables.proofs.entry_and_step.Statement.{statement}
 use Rattle.tables.proofs.entry_and_step.Tie as tie

@@ -16,8 +16,8 @@ Inv-loop table₀ steps entry₀ k₀ table entry k = (k ≤ lastSine) × (k % 4
 abbrev μ-loop : tie.MeasureT-loop
 μ-loop table₀ steps entry₀ k₀ table entry k = lastSine - k
 
-sine-steps-requires : tie.Need-sine-steps-requires Inv-loop μ-loop
-sine-steps-requires c κs = search needs
+lay-steps-requires : tie.Need-lay-steps-requires Inv-loop μ-loop
+lay-steps-requires c κs = search needs
 
 loop-holds : tie.Need-loop-holds Inv-loop μ-loop
 loop-holds c = (omega arith, refl, (refl, sym (sine-ends .0)))
@@ -75,7 +75,7 @@ rebuild-sines-spec =
     (tie.spec
     Inv-loop
     μ-loop
-    sine-steps-requires
+    lay-steps-requires
     loop-holds
     put-entry-requires
     add-put-entry

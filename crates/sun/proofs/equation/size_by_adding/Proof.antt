@@ -1,10 +1,8 @@
 -- The same from two entries and two steps, each the definition's. Assumes nothing.
-use mathlib.Core.Path.{ap, _∙_}
+use mathlib.Core.Path.{ap}
 use borrow.Author.Needs.{needs}
 use Rattle.law.specs.Document.{epicycles}
-use Rattle.motion.specs.Working.{tangentOf}
-use Rattle.motion.proofs.Bridge.{size-from}
-use Rattle.sun.proofs.equation.Heights.{height-at, base-at}
+use Rattle.sun.proofs.equation.Sizes.{sine-there, cosine-there, size-is}
 use Rattle.sun.proofs.equation.size_by_adding.Statement.{statement}
 use Rattle.sun.proofs.equation.size_by_adding.Tie as tie
 
@@ -23,45 +21,33 @@ two-sine-entries-requires c κs = search needs
 between-requires : tie.Need-between-requires
 between-requires c κs = (search needs, ap (λ found. found .first .entry) (c .two-sine-entries .ensures), ap (λ found. found .first .step) (c .two-sine-entries .ensures))
 
-height-requires : tie.Need-height-requires
-height-requires c κs = search needs
-
 between-requires-2 : tie.Need-between-requires-2
 between-requires-2 c κs =
-    let at = c .before .before in
-    (search needs, ap (λ found. found .second .entry) (at .two-sine-entries .ensures), ap (λ found. found .second .step) (at .two-sine-entries .ensures))
-
-height-requires-2 : tie.Need-height-requires-2
-height-requires-2 c κs = search needs
+    let found = c .before .two-sine-entries .ensures in
+    (search needs, ap (λ found. found .second .entry) found, ap (λ found. found .second .step) found)
 
 tangent-table-requires : tie.Need-tangent-table-requires
 tangent-table-requires c κs = search needs
 
-tangent-requires : tie.Need-tangent-requires
-tangent-requires c κs =
-    let base = c .before in
-    let cosine = base .before in
-    let near = cosine .before in
-    let sine = near .before in
+size-from-requires : tie.Need-size-from-requires
+size-from-requires c κs =
+    let tangents = c .before in
+    let cosine = tangents .before in
+    let sine = cosine .before in
     let arc = sine .before .before in
-    let u = arc .before .mirrored .result in (
-      arc .before .mirrored .ensures .1,
-      height-at u (near .height .ensures .0) (sine .between .ensures .0) (arc .folded .ensures .0),
-      base-at u (base .height2 .ensures .0) (cosine .between2 .ensures .0) (arc .folded .ensures .0),
-      near .height .ensures .1,
-      base .height2 .ensures .1,
+    let mirrored = arc .before in (
+      mirrored .mirrored .ensures .1,
+      sine-there (mirrored .mirrored .result) (arc .folded .ensures .0) (sine .between .ensures .0),
+      cosine-there (mirrored .mirrored .result) (arc .folded .ensures .0) (cosine .between2 .ensures .0),
+      sine .between .ensures .1,
+      cosine .between2 .ensures .1,
+      tangents .tangent-table .ensures,
     )
-
-angle-of-requires : tie.Need-angle-of-requires
-angle-of-requires c κs = search needs
 
 returns : tie.Need-returns
 returns c =
-    let arc = c .before .before .before .before .before .before .before .before .before .before in (
-      c .angle-of .ensures .0
-          ∙ size-from epicycles (arc .before .args .a) (c .before .before .tangent .result) (c .before .before .tangent .ensures ∙ ap (tangentOf epicycles) (arc .mirrored .ensures .0)),
-      c .angle-of .ensures .1,
-    )
+    let mirrored = c .before .before .before .before .before .before .before in
+    (size-is epicycles (mirrored .before .args .a) (mirrored .mirrored .ensures .0) (c .size-from .ensures .0), c .size-from .ensures .1)
 
 pub size-by-adding-spec : {M : Type 1} → statement M
 size-by-adding-spec =
@@ -72,10 +58,7 @@ size-by-adding-spec =
     sub-y
     two-sine-entries-requires
     between-requires
-    height-requires
     between-requires-2
-    height-requires-2
     tangent-table-requires
-    tangent-requires
-    angle-of-requires
+    size-from-requires
     returns)

@@ -1,10 +1,9 @@
 -- The mean place moved by one equation, at a midnight in range; a refusal of its year or day is passed on. Assumes nothing.
 use mathlib.Core.Path.{_∙_}
-use Prim.Native.Nat.{_≤_}
 use native.Mathlib.Omega.{arith}
 use borrow.Author.Needs.{needs}
 use Rattle.reasoning.specs.Answer.{value, refusing}
-use Rattle.law.specs.Document.{epicycles, dailyMotion, anomaly, runOnPlace, offTable}
+use Rattle.law.specs.Document.{epicycles, anomaly, runOnPlace, offTable}
 use lib.IntN.{pos, natAbs, _+ℤ_}
 use Rattle.reasoning.proofs.Indexed.{Indexed}
 use Rattle.motion.specs.Working.{lift}
@@ -27,42 +26,37 @@ midnight-at-requires c κs = search needs
 enum-known-y : tie.Need-enum-known-y
 enum-known-y c = search needs
 
--- the year and the day, and the root
-at : (c : tie.After-root-of) → (c .root-of .result ≤ dailyMotion) × (c .before .before .y .given .0 .1 .0 ≤ 374)
-at c = let y = c .before .before in (omega (arith, c .root-of .ensures .0, root-of-le (y .y .given .0 .0)), in-range y .1 .most)
-
 root-of-requires : tie.Need-root-of-requires
 root-of-requires c κs = in-range (c .before) .0 .most
 
 anomaly-requires : tie.Need-anomaly-requires
 anomaly-requires c κs = let i = in-range (c .before .before) in (i .0 .most, c .root-of .ensures .0, i .1 .most)
 
-add-moved : tie.Need-add-moved
-add-moved c = let w = at (c .before) in search needs
-
-mul-moved : tie.Need-mul-moved
-mul-moved c = let w = at (c .before) in search needs
-
-add-moved-2 : tie.Need-add-moved-2
-add-moved-2 c = let w = at (c .before) in search needs
+lifted-mean-requires : tie.Need-lifted-mean-requires
+lifted-mean-requires c κs =
+    let root = c .before in
+    let y = root .before .before in
+    (omega (arith, root .root-of .ensures .0, root-of-le (y .y .given .0 .0)), in-range y .1 .most)
 
 size-by-adding-requires : tie.Need-size-by-adding-requires
 size-by-adding-requires c κs = search needs
 
 moved-requires : tie.Need-moved-requires
-moved-requires c κs = let w = at (c .before .before) in (omega arith, omega arith, c .size-by-adding .ensures .1)
+moved-requires c κs = search needs
 
 enum-known-refusal : tie.Need-enum-known-refusal
 enum-known-refusal c = search needs
 
 returns : tie.Need-returns
 returns c =
-    let root = c .before .before .before in
+    let mean = c .before .before in
+    let at = mean .before in
+    let root = at .before in
     let y = root .before .before in
     let start = y .before .before .before in
     let i = in-range y in (
       c .moved .ensures .0
-          ∙ (place-moved epicycles (y .y .given .0 .0) (y .y .given .0 .1 .0) (c .before .before .anomaly .ensures .0) (root .root-of .ensures .0) (c .before .size-by-adding .ensures .0)
+          ∙ (place-moved epicycles (y .y .given .0 .0) (y .y .given .0 .1 .0) (at .anomaly .ensures .0) (root .root-of .ensures .0) (mean .lifted-mean .ensures .0) (c .before .size-by-adding .ensures .0)
           ∙ lifted-place (start .args .n) (start .args .d) (i .0) (i .1) epicycles),
       c .moved .ensures .1,
     )
@@ -85,9 +79,7 @@ lifted-at-spec =
     enum-known-y
     root-of-requires
     anomaly-requires
-    add-moved
-    mul-moved
-    add-moved-2
+    lifted-mean-requires
     size-by-adding-requires
     moved-requires
     enum-known-refusal
