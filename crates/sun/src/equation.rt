@@ -11,7 +11,7 @@ use units::Refusal;
 use units::Signed;
 ghost use mathlib.Core.Path.{_≡_};
 ghost use Prim.Native.Nat.{_+_, _*_, _-_, _/_, _≤_, _<_, _^_};
-ghost use Rattle.law.specs.Document.{minute, tenMinutes, quarter, half, circle, radius, mirrored as mirroredArc, folded as foldedArc, sine as sineOf, cosine as cosineOf, epicycles, equationAnswer};
+ghost use Rattle.law.specs.Document.{minute, tenMinutes, quarter, half, circle, radius, mirrored as mirroredArc, folded as foldedArc, sine, epicycles, equationAnswer};
 ghost use Rattle.law.specs.Entry.{sineEntry};
 ghost use Rattle.law.specs.Round.{halfUp};
 ghost use Rattle.law.specs.Sines.{sines as sineTable};
@@ -26,7 +26,7 @@ const TEN_MINUTES: u64 = 10 * MINUTE;
 // The sine of an arc up to a quarter circle, from the entry below it and the step to the next.
 fn between(x: u64, below: u64, step: u64) -> u64
     requires { ⌜ (x ≤ quarter) × (below ≡ sineEntry (x / tenMinutes)) × (step ≡ sineEntry (x / tenMinutes + 1) - sineEntry (x / tenMinutes)) ⌝ }
-    ensures { λ r. ⌜ (r ≡ sineOf x) × (r ≤ 10_000_000) ⌝ }
+    ensures { λ r. ⌜ (r ≡ sine x) × (r ≤ 10_000_000) ⌝ }
 {
     below + step * (x % TEN_MINUTES) / TEN_MINUTES
 }
@@ -34,7 +34,7 @@ fn between(x: u64, below: u64, step: u64) -> u64
 // The same from the table. The last entry has no next.
 fn sine_of(x: u64, sines: &[u64; 541]) -> u64
     requires { ⌜ (x ≤ quarter) × (now sines ≡ sineTable) ⌝ }
-    ensures { λ r. ⌜ (r ≡ sineOf x) × (r ≤ 10_000_000) ⌝ }
+    ensures { λ r. ⌜ (r ≡ sine x) × (r ≤ 10_000_000) ⌝ }
 {
     let k = (x / TEN_MINUTES) as usize;
     let below = sines[k];
@@ -50,6 +50,14 @@ fn leg(sine: u64) -> u64
     ensures { λ r. ⌜ (r ≡ halfUp (epicycles * sine) radius) × (r ≤ 179_208) ⌝ }
 {
     units::half_up(EPICYCLES * sine, RADIUS)
+}
+
+// The height at an arc from the perigee or the apogee, up to a quarter circle. The base is the height at its complement.
+fn height(x: u64, sines: &[u64; 541]) -> u64
+    requires { ⌜ (x ≤ quarter) × (now sines ≡ sineTable) ⌝ }
+    ensures { λ r. ⌜ (r ≡ heightOf epicycles x) × (r ≤ 179_208) ⌝ }
+{
+    leg(sine_of(x, sines))
 }
 
 // Steps 2 and 3, at an arc from the perigee up to a half circle.
@@ -114,14 +122,6 @@ fn folded(u: u64) -> u64
     HALF - u
 }
 
-// Steps 1 to 4, at an arc from the perigee up to a half circle, from the sine and the cosine of the folded arc.
-fn size_from(u: u64, sine: u64, cosine: u64, tangents: &[u64; 131]) -> Number
-    requires { ⌜ (u ≤ half) × (sine ≡ sineOf (foldedArc u)) × (cosine ≡ cosineOf (foldedArc u)) × (sine ≤ 10_000_000) × (cosine ≤ 10_000_000) × (now tangents ≡ tangentTable) ⌝ }
-    ensures { λ r. ⌜ (saidNumber r ≡ angleAnswer (tangentOf epicycles u)) × numberUpTo 468_000_000_000 r ⌝ }
-{
-    angle_of(tangent(u, leg(sine), leg(cosine)), tangents)
-}
-
 // The size of the equation at an anomaly in the circle, from both tables.
 pub(crate) fn size_at(a: u64, sines: &[u64; 541], tangents: &[u64; 131]) -> Number
     requires { ⌜ (a < circle) × Laid (now sines) (now tangents) ⌝ }
@@ -129,7 +129,9 @@ pub(crate) fn size_at(a: u64, sines: &[u64; 541], tangents: &[u64; 131]) -> Numb
 {
     let u = mirrored(a);
     let x = folded(u);
-    size_from(u, sine_of(x, sines), sine_of(QUARTER - x, sines), tangents)
+    let high = height(x, sines);
+    let base = height(QUARTER - x, sines);
+    angle_of(tangent(u, high, base), tangents)
 }
 
 // The same for a call that needs one: two sums are added up, and no table of sines is rebuilt.
@@ -141,10 +143,10 @@ pub(crate) fn size_by_adding(a: u64) -> Number
     let x = folded(u);
     let y = QUARTER - x;
     let found = tables::two_sine_entries((x / TEN_MINUTES) as usize, (y / TEN_MINUTES) as usize);
-    let sine = between(x, found.first.entry, found.first.step);
-    let cosine = between(y, found.second.entry, found.second.step);
+    let high = leg(between(x, found.first.entry, found.first.step));
+    let base = leg(between(y, found.second.entry, found.second.step));
     let tangents = tables::tangent_table();
-    size_from(u, sine, cosine, &tangents)
+    angle_of(tangent(u, high, base), &tangents)
 }
 
 // The equation at any anomaly, in units: step 5 adds it below the half circle and takes it away from there on.
