@@ -4,7 +4,7 @@ It shares nothing with the Rattle sources: no code, no table. The sines and tang
 from their series, the numbers are Python's unbounded ones, and each rule is the document's own formula.
 
     python3 tests/expected.py           writes every expected file
-    python3 tests/expected.py --check   writes nothing; names the files that differ, and the rows of law/proofs/Worked*.antt
+    python3 tests/expected.py --check   writes nothing; names the files that differ, and the rows of the proofs' Worked*.antt
                                         that are not as worked_facts.py has them, and exits 1 if there are any
 """
 
