@@ -60,8 +60,8 @@ fn height(x: u64, sines: &[u64; 541]) -> u64
     leg(sine_of(x, sines))
 }
 
-// Steps 2 and 3, at an arc from the perigee up to a half circle.
-fn tangent(u: u64, height: u64, base: u64) -> u64
+// Steps 2 and 3 from both legs, at an arc from the perigee up to a half circle.
+fn tangent_from(u: u64, height: u64, base: u64) -> u64
     requires { ⌜ (u ≤ half) × (height ≡ heightOf epicycles (foldedArc u)) × (base ≡ baseOf epicycles (foldedArc u)) × (height ≤ 179_208) × (base ≤ 179_208) ⌝ }
     ensures { λ r. ⌜ r ≡ tangentOf epicycles u ⌝ }
 {
@@ -69,6 +69,41 @@ fn tangent(u: u64, height: u64, base: u64) -> u64
         return units::half_up(2 * height * RADIUS, RADIUS - base);
     }
     units::half_up(2 * height * RADIUS, RADIUS + base)
+}
+
+// The arc from the perigee or the apogee, whichever is nearer.
+fn folded(u: u64) -> u64
+    requires { ⌜ u ≤ half ⌝ }
+    ensures { λ r. ⌜ (r ≡ foldedArc u) × (r ≤ quarter) ⌝ }
+{
+    if u <= QUARTER {
+        return u;
+    }
+    HALF - u
+}
+
+// The tangent with both legs from the table of sines.
+fn tangent(u: u64, sines: &[u64; 541]) -> u64
+    requires { ⌜ (u ≤ half) × (now sines ≡ sineTable) ⌝ }
+    ensures { λ r. ⌜ r ≡ tangentOf epicycles u ⌝ }
+{
+    let x = folded(u);
+    let high = height(x, sines);
+    let base = height(QUARTER - x, sines);
+    tangent_from(u, high, base)
+}
+
+// The same with two sums added up, and no table of sines.
+fn tangent_by_adding(u: u64) -> u64
+    requires { ⌜ u ≤ half ⌝ }
+    ensures { λ r. ⌜ r ≡ tangentOf epicycles u ⌝ }
+{
+    let x = folded(u);
+    let y = QUARTER - x;
+    let found = tables::two_sine_entries((x / TEN_MINUTES) as usize, (y / TEN_MINUTES) as usize);
+    let high = leg(between(x, found.first.entry, found.first.step));
+    let base = leg(between(y, found.second.entry, found.second.step));
+    tangent_from(u, high, base)
 }
 
 // Step 4. Steps of 2,908 to 2,914 put the minute at t / 2,914 or one further.
@@ -111,42 +146,22 @@ fn mirrored(a: u64) -> u64
     CIRCLE - a
 }
 
-// The arc from the perigee or the apogee, whichever is nearer.
-fn folded(u: u64) -> u64
-    requires { ⌜ u ≤ half ⌝ }
-    ensures { λ r. ⌜ (r ≡ foldedArc u) × (r ≤ quarter) ⌝ }
-{
-    if u <= QUARTER {
-        return u;
-    }
-    HALF - u
-}
-
 // The size of the equation at an anomaly in the circle, from both tables.
 pub(crate) fn size_at(a: u64, sines: &[u64; 541], tangents: &[u64; 131]) -> Number
     requires { ⌜ (a < circle) × Laid (now sines) (now tangents) ⌝ }
     ensures { λ r. ⌜ (saidNumber r ≡ sizeAnswer epicycles a) × numberUpTo 468_000_000_000 r ⌝ }
 {
-    let u = mirrored(a);
-    let x = folded(u);
-    let high = height(x, sines);
-    let base = height(QUARTER - x, sines);
-    angle_of(tangent(u, high, base), tangents)
+    angle_of(tangent(mirrored(a), sines), tangents)
 }
 
-// The same for a call that needs one: two sums are added up, and no table of sines is rebuilt.
+// The same for a call that needs one.
 pub(crate) fn size_by_adding(a: u64) -> Number
     requires { ⌜ a < circle ⌝ }
     ensures { λ r. ⌜ (saidNumber r ≡ sizeAnswer epicycles a) × numberUpTo 468_000_000_000 r ⌝ }
 {
-    let u = mirrored(a);
-    let x = folded(u);
-    let y = QUARTER - x;
-    let found = tables::two_sine_entries((x / TEN_MINUTES) as usize, (y / TEN_MINUTES) as usize);
-    let high = leg(between(x, found.first.entry, found.first.step));
-    let base = leg(between(y, found.second.entry, found.second.step));
+    let t = tangent_by_adding(mirrored(a));
     let tangents = tables::tangent_table();
-    angle_of(tangent(u, high, base), &tangents)
+    angle_of(t, &tangents)
 }
 
 // The equation at any anomaly, in units: step 5 adds it below the half circle and takes it away from there on.

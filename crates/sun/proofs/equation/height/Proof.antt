@@ -1,6 +1,6 @@
 -- The leg of an arc's sine is its height. Assumes nothing.
 use borrow.Author.Needs.{needs}
-use Rattle.sun.proofs.equation.Sizes.{leg-is}
+use Rattle.sun.proofs.equation.BothLegs.{leg-is}
 use Rattle.sun.proofs.equation.height.Statement.{statement}
 use Rattle.sun.proofs.equation.height.Tie as tie
 
