@@ -1,5 +1,6 @@
-"""The facts worked out in the Worked*.antt of law/proofs, tables/proofs and corrections/proofs, as rows of those files, by the rules of documents 01
-and 02 alone: the calls are chosen here, and what each answers is reckoned by expected.py and term_book.py. Shares nothing with the Rattle sources.
+"""The facts worked out in the Worked*.antt of law/proofs, tables/proofs and corrections/proofs, as rows of those files, by the rules of
+documents 01 and 02 alone: the calls are chosen here, and what each answers is reckoned by expected.py and term_book.py. Shares nothing with
+the Rattle sources.
 
     python3 tests/worked_facts.py   prints the rows, file by file
 
