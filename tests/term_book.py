@@ -1,11 +1,12 @@
 """The term book by document 01's rules alone: years written, books read, and the damaged books that the
-program book_cases is run on; and a sheet of corrections beside a book, by document 02's. Shares nothing with
-the Rattle sources; expected.py writes its files.
+program book_cases is run on; and by document 02's a sheet of corrections beside a book, and a partner's book.
+Shares nothing with the Rattle sources; expected.py writes its files.
 """
 
 import random
+from functools import lru_cache
 
-from expected import Refused, day_name, lines_of, mansion, require_year, run_files, term_values, year_asked
+from expected import Refused, crossing_values, day_name, lines_of, mansion, require_year, run_files, term_values, year_asked
 
 YEAR_KIND, TERM_KIND = 1, 2
 BODY = {YEAR_KIND: 4, TERM_KIND: 5}
@@ -208,6 +209,31 @@ def corrected_lines(book):
     return [corrected_line(sheet, main, 321), corrected_line(sheet, main, 0), corrected_line(book[second:], book, 0)]
 
 
+# A partner's book.
+
+
+@lru_cache(maxsize=None)
+def our_term(n, k):
+    return term_values(n, k)[:2]
+
+
+def first_not_ours(book):
+    """The byte of the first record that isn't ours, or None. The book's refusals come before any comparison."""
+    for n, start, _ in years_of(book):
+        if (book[start + 3], book[start + 4]) != (day_name(n), mansion(n)):
+            return start
+        for k in range(24):
+            at = start + 5 + 6 * k
+            if (number_at(book, at + 2) - 4, number_at(book, at + 4)) != our_term(n, k):
+                return at
+    return None
+
+
+def verified(book):
+    byte = first_not_ours(book)
+    return "ours" if byte is None else f"not ours at {byte}"
+
+
 # Damage.
 
 BASE = b"".join(year_bytes(n) for n in (-676, 0, 321))
@@ -221,13 +247,33 @@ def fields(record):
     return [(1, 1, (0, 23, 24)), (2, 2, (0, 374, 375)), (4, 2, (0, 1439, 1440))]
 
 
+def records_of(book):
+    """The start of each record of a sound book, and its bytes."""
+    starts = [0]
+    while starts[-1] < len(book):
+        starts.append(starts[-1] + 1 + BODY[book[starts[-1]]])
+    return starts, [book[start:end] for start, end in zip(starts, starts[1:])]
+
+
+def partners_books():
+    """Each value one more or less than ours, and each year's minutes cut off, from its first term on or its last alone."""
+    starts, records = records_of(BASE)
+    for at, record in zip(starts, records):
+        for offset, size, _ in fields(record):
+            value = int.from_bytes(record[offset : offset + size], "big")
+            for other in (value - 1, value + 1):
+                if 0 <= other < 256**size:
+                    yield BASE[: at + offset] + other.to_bytes(size, "big") + BASE[at + offset + size :]
+    for n, start, end in years_of(BASE):
+        year = bytes_of(n, day_name(n), mansion(n), [crossing_values(n, k) for k in range(24)])
+        yield BASE[:start] + year + BASE[end:]
+        yield BASE[: end - 6] + year[-6:] + BASE[end:]
+
+
 def damaged_books():
     for length in range(len(BASE) + 1):
         yield BASE[:length]
-    starts = [0]
-    while starts[-1] < len(BASE):
-        starts.append(starts[-1] + 1 + BODY[BASE[starts[-1]]])
-    records = [BASE[start:end] for start, end in zip(starts, starts[1:])]
+    starts, records = records_of(BASE)
     for i, record in enumerate(records):
         at = starts[i]
         for kind in (0, 1, 2, 3, 4, 127, 128, 255):
@@ -241,6 +287,7 @@ def damaged_books():
                 yield BASE[: at + offset] + field + BASE[at + offset + size :]
     for first, second in [(0, 0), (1, 0), (0, 1), (-2000, 2000), (2000, -2000)]:
         yield year_bytes(first) + year_bytes(second)
+    yield from partners_books()
     chance = random.Random(1684)
     for _ in range(4000):
         book = bytearray(BASE)
@@ -267,7 +314,7 @@ def case_input():
 def case_lines():
     for book in damaged_books():
         answers = said(checked, book), said(sought, book, 0), read_line(book), "".join(handed_out(book))
-        yield " | ".join([*answers, *corrected_lines(book)])
+        yield " | ".join([*answers, *corrected_lines(book), said(verified, book)])
 
 
 # The program that writes the book of the year asked by its input's first line.

@@ -1,5 +1,5 @@
-"""The facts worked out in the Worked*.antt of law/proofs, tables/proofs and corrections/proofs, as rows of those files, by the rules of
-documents 01 and 02 alone: the calls are chosen here, and what each answers is reckoned by expected.py and term_book.py. Shares nothing with
+"""The facts worked out in the Worked*.antt of law/proofs, tables/proofs, corrections/proofs and verify/proofs, as rows of those files, by the
+rules of documents 01 and 02 alone: the calls are chosen here, and what each answers is reckoned by expected.py and term_book.py. Shares nothing with
 the Rattle sources.
 
     python3 tests/worked_facts.py   prints the rows, file by file
@@ -9,7 +9,7 @@ expected.py --check holds each file to its rows.
 
 import expected
 from expected import CIRCLE, DEGREE, HALF, MINUTE, QUARTER, SINE_STEP, Refused
-from term_book import CORRECTIONS, MAIN, corrected, first_year_asked, number_at, read_year, two_bytes, write_values, write_year, year_bytes, year_end, years_of
+from term_book import CORRECTIONS, MAIN, bytes_of, corrected, first_not_ours, first_year_asked, number_at, read_year, two_bytes, write_values, write_year, year_bytes, year_end, years_of
 
 # How the definitions write a value.
 
@@ -309,6 +309,30 @@ def correcting(corrections, main, n):
         found = f"unsoundIn {WHICH[place[1]]} {number} {place[0]}" if place else f"inNeither {number}"
     part = {CORRECTIONS: corrections, MAIN: main}[which][1][start:end]
     return f"Correcting {corrections[0]} {main[0]} {given(n)} ({found}) {PARTS[part]} {WHICH[which]} {start}"
+
+
+# A partner's book: ours of 1684 with other values in their place, alone or before ours of the year after.
+
+AFTER = "after", year_bytes(1)
+
+
+def verifying(book):
+    try:
+        byte = first_not_ours(book[1])
+        found = "ours" if byte is None else f"notOurs {byte}"
+    except Refused as refusal:
+        found = "refusedAt {} {}".format(*refusal.args)
+    return f"verdictOf epicycles {book[0]} ≡ {found}"
+
+
+def off(seat, by):
+    """The year with the two bytes from a seat on so much more."""
+    return changed(seat, *two_bytes(number_at(YEAR, seat) + by))
+
+
+def before(book, other):
+    """A book with another after it."""
+    return f"({book[0][1:-1]} ++ {other[0]})", book[1] + other[1]
 
 
 # A request line.
@@ -670,6 +694,53 @@ def corrections():
     yield "main-found-in-the-corrections", correcting(SHEET, BROKEN, 1)
 
 
+def partners():
+    carried, _ = expected.ROUNDED_TERMS["carried-first"]
+    at_crossings = bytes_of(carried, *read_year(year_bytes(carried))[0][1:], [expected.crossing_values(carried, k) for k in range(24)])
+    yield f"{AFTER[0]} = {listed(AFTER[1])}"
+    yield f"atCrossings = {listed(at_crossings)}"
+    yield "whole", verifying(WHOLE)
+    yield "none", verifying(NOTHING)
+    yield "two", verifying(joined(WHOLE, AFTER))
+    # each value, to both sides of ours
+    for side, by in (("less", -1), ("more", 1)):
+        yield f"name-{side}", verifying(changed(3, YEAR[3] + by))
+        yield f"mansion-{side}", verifying(changed(4, YEAR[4] + by))
+        yield f"first-day-{side}", verifying(off(7, by))
+        yield f"first-minute-{side}", verifying(off(9, by))
+        yield f"last-day-{side}", verifying(off(145, by))
+        yield f"last-minute-{side}", verifying(off(147, by))
+    yield "day-high-byte", verifying(off(7, 256))
+    yield "minute-high-byte", verifying(off(9, -256))
+    yield "day-and-minute", verifying(changed(7, *two_bytes(number_at(YEAR, 7) + 1), *two_bytes(number_at(YEAR, 9) - 1)))
+    yield "between-first-and-last", verifying(off(5 + 6 * 11 + 4, 1))
+    # the first term whose minute rounding moves, cut off; and one whose day it moves
+    k = next(k for k in range(24) if expected.crossing_values(0, k)[1] != expected.term_values(0, k)[1])
+    yield "cut-off", verifying(changed(5 + 6 * k + 4, *two_bytes(expected.crossing_values(0, k)[1])))
+    yield "not-carried", verifying(("atCrossings", at_crossings))
+    # the values of 1684 under another N
+    yield "next-number", verifying(NEXT)
+    yield "least-number", verifying(LEAST)
+    yield "most-number", verifying(MOST)
+    # the second year, and the first of two that differ
+    yield "second-head", verifying(joined(WHOLE, NEXT))
+    last_minute = AFTER[1][148] + 1
+    yield "second-last", verifying((f"(year ++ (take 148 after ++ ({listed([last_minute])})))", YEAR + AFTER[1][:148] + bytes([last_minute])))
+    yield "first-of-two", verifying(before(off(147, 1), NEXT))
+    yield "head-before-term", verifying(changed(3, YEAR[3] + 1, YEAR[4], 2, 0, 0, 0))
+    # the book's refusals, each after a record that is not ours
+    other = changed(3, YEAR[3] + 1)
+    name_60 = changed(2, YEAR[2] + 1, 60)
+    faults = {7: ("take 8 next", NEXT[1][:8]), 8: plain(3), 9: (name_60[0][1:-1], name_60[1]), 10: WHOLE}
+    for number, fault in faults.items():
+        yield f"refused-{number}", verifying(before(other, fault))
+    yield "cut-between-records", verifying((f"(take 143 {other[0]})", other[1][:143]))
+    # what is not ours is accepted by the check, sought and read
+    yield "checked", check(other)
+    yield "found", seek(other, 0)
+    yield "read", read(other, 24)
+
+
 WORKED_FILES = {
     "law/proofs/WorkedTerms": terms,
     "law/proofs/WorkedBooks": books,
@@ -680,6 +751,7 @@ WORKED_FILES = {
     "law/proofs/WorkedEdges": edges,
     "tables/proofs/WorkedSteps": steps,
     "corrections/proofs/WorkedCorrections": corrections,
+    "verify/proofs/WorkedVerify": partners,
 }
 
 

@@ -1,7 +1,7 @@
 /* The calls of libbhromilun.a, which `bash bindings/build` writes for each target that it knows.
 
-   Each call answers 0, or the number of its refusal. Below, "stores" says of every pointer on which
-   answers its place is stored; on every other answer that place stays as it was. An array or a buffer
+   Each call answers 0, or the number of its refusal; bhromilun_verify_book has one answer more, which no
+   refusal has for its number. Below, "stores" says of every pointer on which answers its place is stored; on every other answer that place stays as it was. An array or a buffer
    is stored whole, as far as the call fills it, or not at all.
 
    The caller sees to it that
@@ -108,6 +108,15 @@ uint64_t bhromilun_seek_year(const uint8_t *bytes, uint64_t length, int64_t n,
 uint64_t bhromilun_corrected_year(const uint8_t *corrections, uint64_t corrections_length,
                                   const uint8_t *main_book, uint64_t main_length, int64_t n,
                                   uint64_t *which, uint64_t *start, uint64_t *end, uint64_t *byte);
+
+/* Checks a partner's book whole, and then whether it is ours: each year's day name and mansion, and each
+   term's day and minute. 0 says that it is: each of its years is, byte for byte, what
+   bhromilun_write_year writes. An empty book is ours. Refuses 7, 8, 9, 10, before any comparison;
+   BHROMILUN_NOT_OURS says that a record is not ours, and is no refusal: the other calls accept the book.
+   Stores: byte on 7, 8, 9 and 10, the byte at fault, and on BHROMILUN_NOT_OURS, the byte where the first
+   record starts that is not ours; not on 0. */
+#define BHROMILUN_NOT_OURS 100
+uint64_t bhromilun_verify_book(const uint8_t *bytes, uint64_t length, uint64_t *byte);
 
 /* Reads the year at the start of the bytes: N, day name, mansion, day and minute of each of the 24
    terms, and in end the byte after the year, where a next one would start. What stands from there on is

@@ -1,7 +1,7 @@
 /* Prints the 24 terms of the epoch year 1684 with the number of each day's name and the time at the
    capital, a term of another year that is printed a day after the sun's crossing, what the epoch year's
    term book reads as, sound and damaged, which book the year comes from where a sheet of corrections has
-   it too, and what a year out of range is answered.
+   it too, whether each of the two is ours, and what a year out of range is answered.
    ../rust/examples/year.rs prints the same. */
 
 #include <inttypes.h>
@@ -76,6 +76,13 @@ int main(void)
     }
     printf("corrected: year %" PRId64 " from %s, %" PRIu64 " bytes\n",
            n, which == 0 ? "the corrections" : "the main book", end - start);
+
+    refused = bhromilun_verify_book(book, sizeof book, &byte);
+    if (refused == 0)
+        printf("verified: the book is ours\n");
+    refused = bhromilun_verify_book(sheet, sizeof sheet, &byte);
+    if (refused == BHROMILUN_NOT_OURS)
+        printf("verified: the corrections are not ours from byte %" PRIu64 " on\n", byte);
 
     book[7] = 2; /* term 0 on day 511 */
     refused = bhromilun_read_year(book, sizeof book, &read, &day_name, &mansion, days, minutes,

@@ -3,7 +3,7 @@
 
 use crate::reckoning::tables::{SINES, TANGENTS};
 use crate::reckoning::{self, book::YEAR_BYTES};
-use crate::{CorrectedRefusal, CorrectedYear, Refusal, Term, Which};
+use crate::{CorrectedRefusal, CorrectedYear, Refusal, Term, Verdict, Which};
 
 const CIRCLE: i64 = reckoning::CIRCLE as i64;
 const HALF_CIRCLE: u64 = reckoning::CIRCLE as u64 / 2;
@@ -290,6 +290,27 @@ pub fn corrected_year<'a>(
     in_corrections.or(in_main).ok_or(CorrectedRefusal::number(12))
 }
 
+/// The book is checked first; then each record is held to ours, which is worked out when it is due.
+pub fn verify_book(bytes: &[u8]) -> Result<Verdict, Refusal> {
+    check_book(bytes)?;
+    for (place, part) in bytes.chunks_exact(YEAR_BYTES).enumerate() {
+        let start = place * YEAR_BYTES;
+        let year = Year::new(i64::from(u16::from_be_bytes([part[1], part[2]])) - 2_000)?;
+        if part[3] != year.day_name || part[4] != year.mansion {
+            return Ok(Verdict::NotOurs { byte: start });
+        }
+        for (k, record) in part[5..].chunks_exact(6).enumerate() {
+            let term = year.term(k as u64);
+            let day = i64::from(u16::from_be_bytes([record[2], record[3]])) - 4;
+            let minute = u64::from(u16::from_be_bytes([record[4], record[5]]));
+            if day != term.day || minute != term.minute {
+                return Ok(Verdict::NotOurs { byte: start + 5 + 6 * k });
+            }
+        }
+    }
+    Ok(Verdict::Ours)
+}
+
 #[cfg(test)]
 mod tests {
     use super::*;
@@ -394,6 +415,22 @@ mod tests {
                 same_corrected_year(&corrections, &main, -1);
                 main[byte] = kept.1;
             }
+        }
+    }
+
+    #[test]
+    fn partners_books() {
+        let mut bytes = written(&[-2_000, 0, 2_000]);
+        for length in 0..=bytes.len() {
+            assert_eq!(verify_book(&bytes[..length]), book::verify_book(&bytes[..length]));
+        }
+        for byte in 0..bytes.len() {
+            let kept = bytes[byte];
+            for value in [0, 1, 2, kept.wrapping_sub(1), kept.wrapping_add(1), 255] {
+                bytes[byte] = value;
+                assert_eq!(verify_book(&bytes), book::verify_book(&bytes), "{byte}: {value}");
+            }
+            bytes[byte] = kept;
         }
     }
 }

@@ -1,4 +1,4 @@
-//! Document 01 and requests K1 and K2 of document 02 a second time, from outside: `reckoning` follows their
+//! Document 01 and requests K1, K2 and K4 of document 02 a second time, from outside: `reckoning` follows their
 //! sentences and shares nothing with the library's sources or tables; `fast` is the reckoning written
 //! for speed, for the benchmark. The types below carry answers and hold no rule; they have the names
 //! and fields of the bindings', but are not those. Only the programs in `bin` call the library.
@@ -46,6 +46,13 @@ impl CorrectedRefusal {
     pub const fn number(number: u64) -> CorrectedRefusal {
         CorrectedRefusal { refusal: Refusal::number(number), which: None }
     }
+}
+
+/// The answer of request K4: every record of a book is ours, or the first byte of the first that isn't.
+#[derive(Clone, Copy, Debug, PartialEq, Eq)]
+pub enum Verdict {
+    Ours,
+    NotOurs { byte: usize },
 }
 
 /// The mean winter solstice of a year; the fraction of its day in thousand-millionths.

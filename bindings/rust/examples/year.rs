@@ -1,7 +1,7 @@
 //! Prints the 24 terms of the epoch year 1684 with the number of each day's name and the time at the
 //! capital, a term of another year that is printed a day after the sun's crossing, what the epoch year's
 //! term book reads as, sound and damaged, which book the year comes from where a sheet of corrections has
-//! it too, and what a year out of range is answered.
+//! it too, whether each of the two is ours, and what a year out of range is answered.
 //! ../../c/example.c prints the same.
 
 use bhromilun::Refusal;
@@ -29,6 +29,8 @@ fn main() -> Result<(), Refusal> {
     let corrected =
         bhromilun::corrected_year(&sheet, &book, n).map_err(|refused| refused.refusal)?;
     println!("corrected: year {n} from {}, {} bytes", corrected.which, corrected.part.len());
+    println!("verified: the book is {}", bhromilun::verify_book(&book)?);
+    println!("verified: the corrections are {}", bhromilun::verify_book(&sheet)?);
     book[7] = 2; // term 0 on day 511
     if let Err(Refusal { number, byte: Some(byte) }) = bhromilun::read_year(&book) {
         println!("damaged book: refused {number} at byte {byte}");

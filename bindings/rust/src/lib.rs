@@ -181,6 +181,25 @@ pub struct CorrectedYear<'a> {
     pub part: &'a [u8],
 }
 
+/// Whether a partner's book is ours. It prints as "ours" or "not ours from byte 5 on".
+#[derive(Clone, Copy, Debug, PartialEq, Eq)]
+pub enum Verdict {
+    /// Each of its years is, byte for byte, what [`write_year`] writes.
+    Ours,
+    /// The first record that isn't ours starts at this byte: a head by its day name or mansion, a term by its
+    /// day or minute.
+    NotOurs { byte: usize },
+}
+
+impl fmt::Display for Verdict {
+    fn fmt(&self, f: &mut fmt::Formatter<'_>) -> fmt::Result {
+        match self {
+            Verdict::Ours => f.write_str("ours"),
+            Verdict::NotOurs { byte } => write!(f, "not ours from byte {byte} on"),
+        }
+    }
+}
+
 /// The answer, unless the number is that of a refusal, which has no byte.
 fn answered<T>(number: u64, answer: T) -> Result<T, Refusal> {
     match number {
@@ -431,6 +450,34 @@ pub fn corrected_year<'a>(
         0 => Ok(CorrectedYear { which, part: &book[start as usize..end as usize] }),
         7..=10 => Err(refused(Some(byte as usize), Some(which))),
         _ => Err(refused(None, None)),
+    }
+}
+
+/// Whether each year of a partner's book is ours: its day name and mansion, and each term's day and minute.
+/// The book is checked whole before anything is compared; an empty one is ours. [`check_book`], [`seek_year`]
+/// and [`read_year`] go on accepting a book that isn't.
+///
+/// Refuses 7, 8, 9, 10, each with its byte.
+///
+/// ```
+/// use bhromilun::Verdict;
+///
+/// let mut book = [0; 149];
+/// bhromilun::write_year(0, &mut book)?;
+/// assert_eq!(bhromilun::verify_book(&book)?, Verdict::Ours);
+/// book[10] += 1; // term 0 a minute later
+/// assert_eq!(bhromilun::verify_book(&book)?, Verdict::NotOurs { byte: 5 });
+/// assert_eq!(bhromilun::check_book(&book), Ok(()));
+/// let refusal = bhromilun::verify_book(&book[..148]).unwrap_err();
+/// assert_eq!((refusal.number, refusal.byte), (7, Some(143)));
+/// # Ok::<(), bhromilun::Refusal>(())
+/// ```
+pub fn verify_book(bytes: &[u8]) -> Result<Verdict, Refusal> {
+    let mut byte = 0;
+    match plain::verify_book(bytes, &mut byte) {
+        0 => Ok(Verdict::Ours),
+        plain::NOT_OURS => Ok(Verdict::NotOurs { byte: byte as usize }),
+        number => Err(Refusal { number, byte: Some(byte as usize) }),
     }
 }
 

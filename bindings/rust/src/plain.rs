@@ -1,5 +1,5 @@
 //! The calls in their C shape, with references for pointers. Each answers 0 or the refusal's number, and
-//! stores the rest in what it is lent last: where this file does not say otherwise, all of it on 0 and
+//! [`verify_book`] a number of its own too, and stores the rest in what it is lent last: where this file does not say otherwise, all of it on 0 and
 //! nothing on a refusal. So a caller can keep its values in arrays of its own, and sees what a refusal
 //! leaves as it was. A length or a place in a book is a number of 64 bits, also where pointers are shorter.
 
@@ -58,6 +58,7 @@ mod library {
             end: &mut u64,
             byte: &mut u64,
         ) -> u64;
+        pub fn bhromilun_verify_book(bytes: *const u8, length: u64, byte: &mut u64) -> u64;
         pub fn bhromilun_read_year(
             bytes: *const u8,
             length: u64,
@@ -171,6 +172,15 @@ pub fn corrected_year(
             byte,
         )
     }
+}
+
+/// What [`verify_book`] answers of a book in which a record is not ours. No refusal has this number.
+pub const NOT_OURS: u64 = 100;
+
+/// See [`verify_book`](crate::verify_book). It answers 0, a refusal's number or [`NOT_OURS`]; `byte` is stored
+/// on all but 0.
+pub fn verify_book(bytes: &[u8], byte: &mut u64) -> u64 {
+    unsafe { library::bhromilun_verify_book(bytes.as_ptr(), bytes.len() as u64, byte) }
 }
 
 /// See [`read_year`](crate::read_year). On 0 all but `byte` is stored, `end` being the byte after the

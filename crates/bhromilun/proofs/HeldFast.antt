@@ -13,6 +13,7 @@ use Rattle.bhromilun.proofs.books.bhromilun_write_year as write-year
 use Rattle.bhromilun.proofs.books.bhromilun_check_book as check-book
 use Rattle.bhromilun.proofs.books.bhromilun_seek_year as seek-year
 use Rattle.bhromilun.proofs.books.bhromilun_corrected_year as corrected-year
+use Rattle.bhromilun.proofs.books.bhromilun_verify_book as verify-book
 use Rattle.bhromilun.proofs.books.bhromilun_read_year as read-year
 use Rattle.bhromilun.proofs.books.bhromilun_write_year_from as write-year-from
 
@@ -71,6 +72,9 @@ bhromilun-corrected-year-held M 𝓤 H A mem run κs a =
       one (p .sought .number) (q .sought .number),
       refl and refl and refl and one (p .whichBook) (q .whichBook) and one (p .sought .partStart) (q .sought .partStart) and one (p .sought .partEnd) (q .sought .partEnd) and one (p .sought .faultByte) (q .sought .faultByte) and refl,
     ))
+
+pub bhromilun-verify-book-held : Held verify-book.ended (λ M. verify-book.clauses {M = M})
+bhromilun-verify-book-held M 𝓤 H A mem run κs a = by-facts 𝓤 (λ z z′ w w′ p q. (one (p .number) (q .number), refl and one (p .atByte) (q .atByte) and refl))
 
 pub bhromilun-read-year-held : Held read-year.ended (λ M. read-year.clauses {M = M})
 bhromilun-read-year-held M 𝓤 H A mem run κs a =

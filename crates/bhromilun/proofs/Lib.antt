@@ -1,3 +1,4 @@
 pub mod HeldFast
 pub mod ReturnTrips
 pub mod WhichBook
+pub mod NoRefusal

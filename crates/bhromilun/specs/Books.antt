@@ -6,6 +6,7 @@ use lib.IntN.{ℤ}
 use Rattle.reasoning.specs.Answer.{Answer, value, refused}
 use Rattle.law.specs.Book.{Checked, sound, faulty, Sought, found, unsound, noYear, BookYear, yearFrom, valuesIn}
 use Rattle.corrections.specs.Corrections.{Which, theCorrections, theMain, Corrected, foundIn, unsoundIn, inNeither, soughtThere}
+use Rattle.verify.specs.Verify.{Verdict, ours, notOurs, refusedAt}
 use Rattle.bhromilun.specs.Told.{Lent, Stored}
 use Rattle.bhromilun.specs.Columns.{daysOf, minutesOf, termsGiven}
 
@@ -67,7 +68,27 @@ pub record ToldCorrected (answer : Corrected) (r : ℕ) (which start end byte : 
   pub sought : ToldSought (soughtThere answer) r start end byte
   pub whichBook : which .after ≡ whichIn (which .before) answer
 
--- ---- a year read: the same
+-- ---- a partner's book: the byte stays where it is ours
+
+-- the answer that a record is not ours, which is no refusal
+abbrev pub notOursNumber : ℕ
+notOursNumber = 100
+
+abbrev pub verdictNumber : Verdict → ℕ
+verdictNumber ours = 0
+verdictNumber (notOurs at) = notOursNumber
+verdictNumber (refusedAt number byte) = number
+
+abbrev pub verdictByte : ℕ → Verdict → ℕ
+verdictByte before ours = before
+verdictByte before (notOurs at) = at
+verdictByte before (refusedAt number byte) = byte
+
+pub record ToldVerdict (verdict : Verdict) (r : ℕ) (byte : Lent ℕ) : Type 0 where
+  pub number : r ≡ verdictNumber verdict
+  pub atByte : byte .after ≡ verdictByte (byte .before) verdict
+
+-- ---- a year read: what is not told stays as it was
 
 abbrev pub ifRead : Checked → BookYear → Answer BookYear
 ifRead (sound end) year = value year

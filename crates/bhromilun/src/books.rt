@@ -8,6 +8,7 @@ use corrections::Which;
 use corrections::corrected_year;
 use values::Head;
 use values::Written;
+use verify::Verdict;
 ghost use mathlib.Core.Path.{_≡_};
 ghost use Rattle.reasoning.specs.Answer.{refusalIn};
 ghost use Rattle.law.specs.Document.{epicycles};
@@ -15,8 +16,9 @@ ghost use Rattle.law.specs.Book.{writeAnswer, workedAnswer, bookOf, seekOf};
 ghost use Rattle.corrections.specs.Corrections.{correctedOf};
 ghost use Rattle.corrections.specs.Said.{saidWhich, saidCorrected};
 ghost use Rattle.values.specs.Said.{saidWritten};
+ghost use Rattle.verify.specs.Verify.{verdictOf};
 ghost use Rattle.bhromilun.specs.Told.{Told, lent};
-ghost use Rattle.bhromilun.specs.Books.{ToldCheck, ToldSought, ToldCorrected, whichNumber, ToldRead, yearGiven};
+ghost use Rattle.bhromilun.specs.Books.{ToldCheck, ToldSought, ToldCorrected, whichNumber, ToldVerdict, ToldRead, yearGiven};
 
 // The writer has filled the buffer itself.
 fn tell_written(answer: Written) -> u64
@@ -122,6 +124,24 @@ pub extern "C" fn bhromilun_corrected_year<'a>(
             units::refusal_number(refusal)
         }
         Corrected::Refused(refusal) => units::refusal_number(refusal),
+    }
+}
+
+// Says whether a book is ours. Where it isn't, its first record that isn't starts at `byte`; a book at fault is so at `byte`.
+#[no_mangle]
+pub extern "C" fn bhromilun_verify_book(bytes: &[u8], byte: &mut usize) -> u64
+    ensures { λ r. ⌜ ToldVerdict (verdictOf epicycles (now (bytes .entry))) r (lent byte) ⌝ }
+{
+    match verify::verify_book(bytes) {
+        Verdict::Ours => 0,
+        Verdict::NotOurs(at) => {
+            *byte = at;
+            100
+        }
+        Verdict::Refused(refusal, at) => {
+            *byte = at;
+            units::refusal_number(refusal)
+        }
     }
 }
 

@@ -1,5 +1,5 @@
-// Of each damaged book: what checking it, seeking the year 0 in it, reading its first year and a reader's calls answer, and what is
-// handed out where its years are corrections and a main book.
+// Of each damaged book: what checking it, seeking the year 0 in it, reading its first year and a reader's calls answer, what is
+// handed out where its years are corrections and a main book, and whether it is ours.
 use crate::bytes::byte_at;
 use crate::bytes::two_at;
 use crate::corrected;
@@ -11,6 +11,7 @@ use book::Sought;
 use console::number;
 use console::refused;
 use console::text;
+use verify::Verdict;
 ghost use Prim.Native.Nat.{_≤_};
 
 // The years -676, 0 and 321, and zeros after them.
@@ -48,6 +49,17 @@ fn sought(bytes: &[u8]) {
     }
 }
 
+fn verified(bytes: &[u8]) {
+    match verify::verify_book(bytes) {
+        Verdict::Ours => text(b"ours"),
+        Verdict::NotOurs(byte) => {
+            text(b"not ours at ");
+            number(byte as u64);
+        }
+        Verdict::Refused(refusal, byte) => refused_at(refusal, byte),
+    }
+}
+
 fn line(bytes: &[u8]) {
     checked(bytes);
     text(b" | ");
@@ -58,6 +70,8 @@ fn line(bytes: &[u8]) {
     readers::calls(bytes);
     text(b" | ");
     corrected::years(bytes);
+    text(b" | ");
+    verified(bytes);
     text(b"\n");
 }
 
@@ -69,7 +83,7 @@ fn put(bytes: &mut [u8], place: usize, byte: u8) {
 
 // So many bytes changed, each given as its place and the byte.
 fn change(input: &[u8], from: usize, changes: usize, bytes: &mut [u8])
-    requires { ⌜ (from ≤ 200_000) × (changes ≤ 65_535) ⌝ }
+    requires { ⌜ (from ≤ 300_000) × (changes ≤ 65_535) ⌝ }
 {
     for i in 0..changes {
         let place = two_at(input, from + 3 * i);
@@ -78,7 +92,7 @@ fn change(input: &[u8], from: usize, changes: usize, bytes: &mut [u8])
 }
 
 fn changed_line(input: &[u8], at: usize, bytes: &mut [u8])
-    requires { ⌜ at ≤ 131_072 ⌝ }
+    requires { ⌜ at ≤ 262_144 ⌝ }
 {
     let len = two_at(input, at);
     change(input, at + 4, two_at(input, at + 2), bytes);
@@ -89,8 +103,8 @@ fn changed_line(input: &[u8], at: usize, bytes: &mut [u8])
 
 // One damaged book; answers where the next one starts.
 fn case(input: &[u8], at: usize, base: [u8; 600]) -> usize
-    requires { ⌜ at ≤ 131_072 ⌝ }
-    ensures { λ r. ⌜ r ≤ 400_000 ⌝ }
+    requires { ⌜ at ≤ 262_144 ⌝ }
+    ensures { λ r. ⌜ r ≤ 500_000 ⌝ }
 {
     let mut bytes = base;
     changed_line(input, at, &mut bytes);
@@ -101,7 +115,7 @@ pub(crate) fn lines(input: &[u8]) {
     let base = base_book();
     let mut at = 0;
     for turn in 0..10_000u64 {
-        if 131_072 < at {
+        if 262_144 < at {
             return;
         }
         if input.len() <= at {

@@ -13,7 +13,7 @@ use libc::STDIN_FILENO;
 
 fn main() {
     written::lines();
-    let mut input = [0u8; 131_072];
+    let mut input = [0u8; 262_144];
     let got = io::read_full(STDIN_FILENO, &mut input);
     damaged::lines(&input[..got]);
 }

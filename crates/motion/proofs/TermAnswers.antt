@@ -98,7 +98,7 @@ module _ (e : ℕ) (o : e ≤ epicycles) (N : ℤ) (k : ℕ) where
   crossing-answered = answered crossingOf (crossingValues e N k) (λ (n : Indexed 2_000 2_000 N (yearIndex N)). crossing-is e o N n k)
 
 -- the year's 24
-none-off : (e : ℕ) → e ≤ epicycles → (N : ℤ) (k : ℕ) → offBelow e N k ≡ false
+pub none-off : (e : ℕ) → e ≤ epicycles → (N : ℤ) (k : ℕ) → offBelow e N k ≡ false
 unfolding offBelow
 none-off e o N zero = refl
 none-off e o N (suc k) = rw (never-off-term e o N k, none-off e o N k) refl

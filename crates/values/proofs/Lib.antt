@@ -1,3 +1,4 @@
+pub mod GivenTerms
 pub mod ReadValues
 pub mod WriteAnswers
 pub mod WorkedFits

@@ -58,7 +58,7 @@ module _ (v : BookYear) (b c : List ℕ) (few : length (v .yearTerms) ≤ 24) (w
 -- ---- what is read is written
 
 -- a count from the least allowed to the most is of a number in its range
-in-range : (lo hi n : ℕ) → n ≤ lo + hi → (ltZ (pos n -ℤ pos lo) (negℤ (pos lo)) || ltZ (pos hi) (pos n -ℤ pos lo)) ≡ false
+pub in-range : (lo hi n : ℕ) → n ≤ lo + hi → (ltZ (pos n -ℤ pos lo) (negℤ (pos lo)) || ltZ (pos hi) (pos n -ℤ pos lo)) ≡ false
 in-range lo hi n h =
     let g : Is (pos n -ℤ pos lo) (n + 0) (0 + lo) = is-minus (is-pos n) (is-pos lo) in
     let low : ltZ (pos n -ℤ pos lo) (negℤ (pos lo)) ≡ false = ltZ-is g (is-neg (is-pos lo)) ∙ le-ltb (n + 0 + lo) (0 + (0 + lo)) (omega arith) in

@@ -51,16 +51,16 @@ module _ (v : BookYear) where
   unfolding bytesOf
   bytes-long h = omega (arith, terms-long 0 (v .yearTerms))
 
-two-back : (x : ℕ) → x < 65_536 → x / 256 % 256 * 256 + x % 256 ≡ x
+pub two-back : (x : ℕ) → x < 65_536 → x / 256 % 256 * 256 + x % 256 ≡ x
 two-back x h = omega arith
 
 -- a term that is not bad
-record TermFits (t : TermValues) : Type 0 where
-  day : badDay (t .dayOfTerm) ≡ false
-  count : dayIndex (t .dayOfTerm) ≤ 374
-  minute : t .minuteOfTerm ≤ 1_439
+pub record TermFits (t : TermValues) : Type 0 where
+  pub day : badDay (t .dayOfTerm) ≡ false
+  pub count : dayIndex (t .dayOfTerm) ≤ 374
+  pub minute : t .minuteOfTerm ≤ 1_439
 
-term-fits : (t : TermValues) → badTermValues t ≡ false → TermFits t
+pub term-fits : (t : TermValues) → badTermValues t ≡ false → TermFits t
 term-fits t h =
     let p = both-no (badDay (t .dayOfTerm)) (badMinute (t .minuteOfTerm)) h in
     record { day = p .0; count = count-le 4 370 (t .dayOfTerm) (p .0); minute = ltb-false 1_439 (t .minuteOfTerm) (p .1) }
@@ -82,12 +82,12 @@ terms-back (t ∷ ts) k r h =
     rw (two-back (dayIndex (t .dayOfTerm)) (omega (arith, f .count)), two-back (t .minuteOfTerm) (omega (arith, f .minute)), count-back 4 370 (t .dayOfTerm) (f .day), terms-back ts (suc k) r (p .1))
 
 -- the values' ranges
-record Ranges (v : BookYear) : Type 0 where
-  name : v .yearName ≤ 59
-  duty : v .yearMansion ≤ 27
-  terms : anyBad (v .yearTerms) ≡ false
+pub record Ranges (v : BookYear) : Type 0 where
+  pub name : v .yearName ≤ 59
+  pub duty : v .yearMansion ≤ 27
+  pub terms : anyBad (v .yearTerms) ≡ false
 
-ranges : (v : BookYear) → badValues v ≡ false → Ranges v
+pub ranges : (v : BookYear) → badValues v ≡ false → Ranges v
 unfolding badValues
 ranges v h =
     let p = both-no (ltb 59 (v .yearName)) (ltb 27 (v .yearMansion) || anyBad (v .yearTerms)) h in
@@ -129,7 +129,7 @@ module _ (v : BookYear) (r : List ℕ) (f : Fits v) where
 
 -- a year worked out
 module _ (e : ℕ) (o : e ≤ epicycles) (N : ℤ) (h : badYear N ≡ false) where
-  worked-year-fits : Fits (workedYear e N)
+  pub worked-year-fits : Fits (workedYear e N)
   unfolding workedYear
   worked-year-fits = record { year = h; rest = worked-fits e o N h; all = in-order-length (termValues e N) 24 }
 

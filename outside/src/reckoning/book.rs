@@ -1,9 +1,10 @@
 //! The term book: its writers, its check, the reading of one year and the search for one, as document
-//! 01 sets them out; and the search in two books, as request K1 of document 02 does. The check reads
-//! record by record; a fault is named by its number and the record's first byte.
+//! 01 sets them out; the search in two books, as request K1 of document 02 does, and the comparison of a
+//! partner's book with ours, as request K4 does. The check reads record by record; a fault is named by its
+//! number and the record's first byte.
 
 use super::{term, year, year_in_range};
-use crate::{CorrectedRefusal, CorrectedYear, Moment, Refusal, Which, Year};
+use crate::{CorrectedRefusal, CorrectedYear, Moment, Refusal, Verdict, Which, Year};
 
 pub const YEAR_BYTES: usize = 149;
 
@@ -31,8 +32,8 @@ fn bytes_of(year: &Year) -> Vec<u8> {
     bytes
 }
 
-pub fn write_year(n: i64, buffer: &mut [u8]) -> Result<(), Refusal> {
-    room_for(n, buffer)?;
+/// A year as we reckon it.
+pub fn worked_year(n: i64) -> Result<Year, Refusal> {
     let solstice = year(n)?;
     let mut worked =
         Year { n, day_name: solstice.day_name, mansion: solstice.mansion, ..Year::default() };
@@ -40,7 +41,12 @@ pub fn write_year(n: i64, buffer: &mut [u8]) -> Result<(), Refusal> {
         let found = term(n, k as u64)?;
         *moment = Moment { day: found.day, minute: found.minute };
     }
-    buffer[..YEAR_BYTES].copy_from_slice(&bytes_of(&worked));
+    Ok(worked)
+}
+
+pub fn write_year(n: i64, buffer: &mut [u8]) -> Result<(), Refusal> {
+    room_for(n, buffer)?;
+    buffer[..YEAR_BYTES].copy_from_slice(&bytes_of(&worked_year(n)?));
     Ok(())
 }
 
@@ -209,9 +215,34 @@ pub fn corrected_year<'a>(
     Ok(CorrectedYear { which, part: &book[start..start + YEAR_BYTES] })
 }
 
+/// Request K4: whether each year's day name and mansion and each term's day and minute are ours, which
+/// `our_year` has. The whole book is read before anything is compared.
+pub fn verify_with(bytes: &[u8], our_year: impl Fn(i64) -> Year) -> Result<Verdict, Refusal> {
+    check_book(bytes)?;
+    let mut start = 0;
+    while start < bytes.len() {
+        let (theirs, length) = read_year(&bytes[start..])?;
+        let ours = our_year(theirs.n);
+        if theirs.day_name != ours.day_name || theirs.mansion != ours.mansion {
+            return Ok(Verdict::NotOurs { byte: start });
+        }
+        if let Some(k) = (0..24).find(|&k| theirs.terms[k] != ours.terms[k]) {
+            return Ok(Verdict::NotOurs { byte: start + 5 + 6 * k });
+        }
+        start += length;
+    }
+    Ok(Verdict::Ours)
+}
+
+pub fn verify_book(bytes: &[u8]) -> Result<Verdict, Refusal> {
+    // A sound book's N is in range.
+    verify_with(bytes, |n| worked_year(n).unwrap())
+}
+
 #[cfg(test)]
 mod tests {
     use super::*;
+    use crate::reckoning::crossing;
 
     fn book(years: &[i64]) -> Vec<u8> {
         let mut bytes = vec![0; YEAR_BYTES * years.len()];
@@ -398,5 +429,63 @@ mod tests {
                 }
             }
         }
+    }
+
+    #[test]
+    fn partners_books() {
+        assert_eq!(verify_book(&[]), Ok(Verdict::Ours));
+        assert_eq!(verify_book(&book(&[-2_000, 0, 2_000])), Ok(Verdict::Ours));
+        let changed = |byte: usize, by: u8| {
+            let mut bytes = book(&[-1, 0]);
+            bytes[byte] = bytes[byte].wrapping_add(by);
+            verify_book(&bytes)
+        };
+        let not_ours = |byte| Ok(Verdict::NotOurs { byte });
+        for (start, first) in [(0, 0), (YEAR_BYTES, 149)] {
+            assert_eq!(changed(start + 3, 1), not_ours(first)); // the day name
+            assert_eq!(changed(start + 4, 255), not_ours(first)); // the mansion
+            for k in 0..24 {
+                let record = start + 5 + 6 * k;
+                assert_eq!(changed(record + 3, 1), not_ours(record)); // the day
+                assert_eq!(changed(record + 5, 1), not_ours(record)); // the minute
+            }
+        }
+        // The next year, under the N of this one.
+        let mut bytes = book(&[1]);
+        bytes[2] -= 1;
+        assert_eq!(verify_book(&bytes), not_ours(0));
+        // Of two that differ the first; and a fault before any.
+        let mut bytes = book(&[-1, 0]);
+        bytes[148] ^= 1;
+        bytes[10] ^= 1;
+        assert_eq!(verify_book(&bytes), not_ours(5));
+        bytes[297] = 255;
+        bytes[296] = 255;
+        assert_eq!(verify_book(&bytes), Err(Refusal { number: 9, byte: Some(292) }));
+        for (bytes, refusal) in books_at_fault() {
+            assert_eq!(verify_book(&bytes), Err(refusal));
+        }
+    }
+
+    /// The minute cut off is another's, where rounding moves it.
+    #[test]
+    fn partners_minutes_cut_off() {
+        let mut moved = 0;
+        for n in (-2_000..=2_000).step_by(97) {
+            let ours = worked_year(n).unwrap();
+            for k in 0..24 {
+                let mut theirs = ours;
+                theirs.terms[k] = crossing(n, k as u64).unwrap();
+                let mut bytes = [0; YEAR_BYTES];
+                write_year_from(&theirs, &mut bytes).unwrap();
+                let verdict = match theirs.terms[k] == ours.terms[k] {
+                    true => Verdict::Ours,
+                    false => Verdict::NotOurs { byte: 5 + 6 * k },
+                };
+                moved += u32::from(verdict != Verdict::Ours);
+                assert_eq!(verify_book(&bytes), Ok(verdict), "{n}, term {k}");
+            }
+        }
+        assert!(400 < moved && moved < 600, "{moved}");
     }
 }

@@ -1,21 +1,17 @@
 -- A buffer filled from its head on, one term further at a time: what it holds so far, before the terms still to come, is the year.
 -- Assumes nothing.
 use mathlib.Core.Bool.{true, false}
-use mathlib.Core.List.{List, [], _∷_, _++_, append-assoc, map}
+use mathlib.Core.List.{List, [], _∷_, _++_, append-assoc}
 use mathlib.Core.Path.{_≡_, sym, _∙_, ap}
 use Prim.Native.Nat.{ℕ, zero, suc, _+_, _-_, _≤_, _<_}
 use native.Mathlib.Omega.{arith}
 use native.Mathlib.Numerals.{add-one}
-use lib.ListN.{length, length-map, List·getD-map, getD, take, drop, set, length-drop, length-append, take-append-drop, drop-of-length-le}
-use lib.Seq.{sets-eq, drop-cons, drop-drop, take-append-add, drop-append-add, length-take-le}
+use lib.ListN.{length, take, drop, set, length-drop, length-append, take-append-drop, drop-of-length-le}
+use lib.Seq.{sets-eq, drop-drop, take-append-add, drop-append-add, length-take-le}
 use Rattle.law.specs.Document.{TermValues}
 use Rattle.law.specs.Index.{dayIndex}
 use Rattle.law.specs.Book.{termsOf, badTermValues, anyBad}
-use Rattle.sun.specs.Said.{valuesOfTerm}
-use Rattle.sun.specs.Worked.{zeroRecord}
-use Rattle.sun.specs.declared.term.TermRecord.{TermRecord}
 use Rattle.values.specs.Told.{termRecord}
-use Rattle.reasoning.proofs.Answers.{both-no}
 
 -- six bytes stored from a byte on
 pub put-six : (l : List ℕ) (at a b c d e f : ℕ) → at + 6 ≤ length l
@@ -80,22 +76,3 @@ module _ (k : ℕ) (ts : List TermValues) (t : TermValues) (h : drop k ts ≡ t 
   pub bad-later : badTermValues t ≡ false → anyBad (drop k ts) ≡ anyBad (drop (k + 1) ts)
   unfolding anyBad
   bad-later e = rw (h, e, add-one k)
-
-pub not-bad : (k : ℕ) (ts : List TermValues) (t : TermValues) → anyBad ts ≡ false → k < length ts → badTermValues (getD ts k t) ≡ false
-unfolding anyBad
-not-bad k [] t e h = absurd (omega arith)
-not-bad zero (x ∷ ts) t e h = both-no (badTermValues x) (anyBad ts) e .0
-not-bad (suc k) (x ∷ ts) t e h = not-bad k ts t (both-no (badTermValues x) (anyBad ts) e .1) (omega arith)
-
--- ---- the terms as they are given to a call
-
-pub term-next : (ts : List TermRecord) (k : ℕ) → k < length ts
-    → drop k (map valuesOfTerm ts) ≡ valuesOfTerm (getD ts k zeroRecord) ∷ drop (suc k) (map valuesOfTerm ts)
-term-next ts k h =
-    let l : k < length (map valuesOfTerm ts) = omega (arith, length-map ts valuesOfTerm) in
-    drop-cons (map valuesOfTerm ts) k (valuesOfTerm zeroRecord) l ∙ ap (λ (t : TermValues). t ∷ drop (suc k) (map valuesOfTerm ts)) (List·getD-map valuesOfTerm ts k zeroRecord)
-
-pub term-not-bad : (ts : List TermRecord) (k : ℕ) → anyBad (map valuesOfTerm ts) ≡ false → k < length ts → badTermValues (valuesOfTerm (getD ts k zeroRecord)) ≡ false
-term-not-bad ts k e h =
-    let l : k < length (map valuesOfTerm ts) = omega (arith, length-map ts valuesOfTerm) in
-    ap badTermValues (sym (List·getD-map valuesOfTerm ts k zeroRecord)) ∙ not-bad k (map valuesOfTerm ts) (valuesOfTerm zeroRecord) e l

@@ -4,7 +4,7 @@
 
 use bhromilun::plain;
 use outside::reckoning::book::YEAR_BYTES;
-use outside::{fast, Term};
+use outside::{fast, Term, Verdict};
 use std::time::Instant;
 
 const REPETITIONS: usize = 50;
@@ -94,6 +94,27 @@ fn main() {
                 let (sheet, book) = (hidden(&sheet[..]), hidden(&book[..]));
                 let year = fast::corrected_year(sheet, book, hidden(n));
                 sum_of_part(year.map(|year| year.part))
+            },
+        );
+    }
+    // In the other book the first record is not ours: its day name is another.
+    let mut other = book.clone();
+    other[3] = (other[3] + 1) % 60;
+    for (name, calls, book) in [
+        ("verifying the book of 4,001 years", 1, &book),
+        ("verifying it, its first record not ours", 20, &other),
+    ] {
+        row(
+            name,
+            calls,
+            |_| {
+                let mut byte = 0;
+                plain::verify_book(hidden(&book[..]), &mut byte) + byte
+            },
+            |_| match fast::verify_book(hidden(&book[..])) {
+                Ok(Verdict::Ours) => 0,
+                Ok(Verdict::NotOurs { byte }) => plain::NOT_OURS + byte as u64,
+                Err(refusal) => refusal.number,
             },
         );
     }

@@ -121,6 +121,10 @@ impl Record {
         }
     }
 
+    pub fn get(&self, (first, bytes, _): Field) -> u16 {
+        self.bytes[first..first + bytes].iter().fold(0, |value, &byte| value << 8 | u16::from(byte))
+    }
+
     pub fn set(&mut self, (first, bytes, _): Field, value: u16) {
         self.bytes[first..first + bytes].copy_from_slice(&value.to_be_bytes()[2 - bytes..]);
     }

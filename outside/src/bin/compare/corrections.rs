@@ -100,7 +100,7 @@ fn book_of(records: &[Record]) -> Vec<u8> {
 }
 
 /// Books of each kind: empty, sound, and with each fault in the first year and in the last.
-fn odd_books(shelf: &[u8]) -> Vec<Vec<u8>> {
+pub fn odd_books(shelf: &[u8]) -> Vec<Vec<u8>> {
     let mut books = vec![Vec::new()];
     let sound = [&[-2_000][..], &[0], &[2_000], &[-2_000, 2_000], &[-1, 0], &[-1, 0, 1]];
     let falling = [&[0, 0][..], &[0, -1], &[-1, 1, 0]];

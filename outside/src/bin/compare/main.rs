@@ -4,6 +4,7 @@
 mod books;
 mod corrections;
 mod odd;
+mod partners;
 mod reckoned;
 mod results;
 mod values;
@@ -33,6 +34,11 @@ fn main() {
     corrections::cut_pairs(&mut tally, &shelf);
     corrections::whole_books(&mut tally, &shelf);
     corrections::damaged_pairs(&mut tally, &shelf);
+    let ours = partners::Ours::of(&shelf);
+    partners::odd_partners(&mut tally, &shelf, &ours);
+    partners::partners_years(&mut tally, &shelf, &ours);
+    partners::whole_partners(&mut tally, &shelf, &ours);
+    partners::damaged_partners(&mut tally, &shelf, &ours);
     values::read_years(&mut tally, &shelf);
     values::odd_years_read(&mut tally, &shelf);
     values::damaged_years_read(&mut tally, &shelf);

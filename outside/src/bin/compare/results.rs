@@ -52,6 +52,14 @@ pub fn results(tally: &mut Tally, shelf: &[u8]) {
             }
             let ours = book::check_book(part);
             case(tally, "checked book's result", bhromilun::check_book(part), ours);
+            let ours = book::verify_book(part);
+            case(tally, "verified book's result", bhromilun::verify_book(part), ours);
+            let mut other = part.to_vec();
+            if let Some(byte) = other.get_mut(3) {
+                *byte = (*byte + 1) % 60;
+            }
+            let ours = book::verify_book(&other);
+            case(tally, "verified book's result", bhromilun::verify_book(&other), ours);
             let ours = book::read_year(part).map(|(year, end)| (year, part.len() - end));
             let answer = bhromilun::read_year(part).map(|(year, rest)| (year, rest.len()));
             case(tally, "read year's result", answer, ours);

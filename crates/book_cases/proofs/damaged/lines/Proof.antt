@@ -5,7 +5,7 @@ use Rattle.book_cases.proofs.damaged.lines.Statement.{statement}
 use Rattle.book_cases.proofs.damaged.lines.Tie as tie
 
 abbrev Inv-loop : tie.InvT-loop
-Inv-loop input base at₀ turn₀ at turn = (turn ≤ 10_000) × (at ≤ 400_000)
+Inv-loop input base at₀ turn₀ at turn = (turn ≤ 10_000) × (at ≤ 500_000)
 
 abbrev μ-loop : tie.MeasureT-loop
 μ-loop input base at₀ turn₀ at turn = 10_000 - turn

@@ -8,7 +8,8 @@ use borrow.Author.Needs.{needs}
 use Rattle.law.specs.Book.{anyBad}
 use Rattle.sun.specs.Said.{valuesOfTerm}
 use Rattle.sun.specs.Worked.{zeroRecord}
-use Rattle.values.proofs.write.BufferFilled.{bad-none, bad-here, bad-later, term-next}
+use Rattle.values.proofs.GivenTerms.{term-next}
+use Rattle.values.proofs.write.BufferFilled.{bad-none, bad-here, bad-later}
 use Rattle.values.proofs.write.any_bad.Statement.{statement}
 use Rattle.values.proofs.write.any_bad.Tie as tie
 

@@ -14,7 +14,8 @@ use Rattle.sun.specs.declared.term.TermRecord.{TermRecord}
 use Rattle.sun.specs.Said.{valuesOfTerm}
 use Rattle.sun.specs.Worked.{zeroRecord}
 use Rattle.values.specs.Told.{termRecord}
-use Rattle.values.proofs.write.BufferFilled.{term-next, term-not-bad, bufferTo, fill-length, fill-more, fill-end, termBytes}
+use Rattle.values.proofs.GivenTerms.{term-next, term-not-bad}
+use Rattle.values.proofs.write.BufferFilled.{bufferTo, fill-length, fill-more, fill-end, termBytes}
 use Rattle.reasoning.proofs.Answers.{both-no}
 use Rattle.values.proofs.write.put_terms.Statement.{statement}
 use Rattle.values.proofs.write.put_terms.Tie as tie

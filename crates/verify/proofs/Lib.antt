@@ -1,0 +1,9 @@
+pub mod YearsOfBook
+pub mod Beside
+pub mod FirstRecord
+pub mod Ours
+pub mod TermFields
+pub mod YearTurns
+pub mod Turns
+pub mod WorkedVerify
+pub mod HeldFast

@@ -1,0 +1,245 @@
+-- Document 02's request K4, over its definitions. A sound book gets "ours" exactly when it is, byte for byte, our writer's years of its own
+-- Ns put together, whoever wrote it. Our writer's years with rising N always get it. Otherwise the byte told is that of the first record
+-- that differs: all before it is ours, and it is not. A book that is refused is refused before any comparison, and only such a one is: the
+-- check accepts every book that is not ours. At any difference of the epicycles up to document 01's. Assumes nothing.
+use mathlib.Core.Bool.{Bool, true, false}
+use mathlib.Core.List.{List, [], _∷_, _++_, map}
+use mathlib.Core.Logic.{_⊎_, inl, inr}
+use mathlib.Core.Path.{_≡_, refl, sym, subst, _∙_, ap, ap₂}
+use Prim.Native.Nat.{ℕ, _+_, _≤_}
+use native.Mathlib.Nat.{zero-add}
+use native.Mathlib.Omega.{arith}
+use borrow.Author.Tests.{le-ltb}
+use lib.IntN.{ℤ, pos, _-ℤ_}
+use lib.ListN.{length, drop, replicate}
+use lib.Signed.{_<ℤ_}
+use Rattle.reasoning.specs.Answer.{afterwards}
+use Rattle.reasoning.proofs.Whole.{is-lt}
+use Rattle.reasoning.proofs.Indexed.{indexed}
+use Rattle.law.specs.Document.{epicycles, badYear}
+use Rattle.law.specs.Index.{yearIndex}
+use Rattle.law.specs.Book.{BookYear, Checked, sound, faulty, bookOf, partsOf, together, bytesOf, workedYear, workedAnswer}
+use Rattle.motion.proofs.TermAnswers.{none-off}
+use Rattle.units.proofs.Counts.{count-back}
+use Rattle.book.proofs.BookSteps.{isSound}
+use Rattle.book.proofs.WholeBooks.{parts-together}
+use Rattle.values.proofs.WrittenIsRead.{bytes-before, bytes-number, Fits, worked-year-fits}
+use Rattle.values.proofs.ReadIsWritten.{Bytes}
+use Rattle.values.proofs.RisingYears.{allOf, Rising, rising-accepted}
+use Rattle.verify.specs.Verify.{Verdict, ours, notOurs, refusedAt, numberIn, yearVerdict, yearBeside, unlessOurs, yearsVerdict, afterCheck, verdictOf, writtenYear, writtenYears, numbersOf}
+use Rattle.verify.proofs.YearsOfBook.{yearBytes, parts-of-rising, YearsOf, years-of}
+use Rattle.verify.proofs.FirstRecord.{RecordAt, FirstAt, later}
+use Rattle.verify.proofs.Beside.{Known, known-by, SameYear, OtherRecord, year-beside}
+
+-- ---- after the check
+
+abbrev compares : Verdict → Bool
+compares ours = true
+compares (notOurs at) = true
+compares (refusedAt number byte) = false
+
+passed : (c : Checked) (v w : Verdict) → compares w ≡ true → afterCheck c v ≡ w → (isSound c ≡ true) × (v ≡ w)
+passed (sound end) v w h q = (refl, q)
+passed (faulty number byte) v w h q = absurd (let z : _≡_ {A = Bool} false true = ap compares q ∙ h in let n : _≡_ {A = ℕ} 0 1 = cc in omega arith)
+
+pub after-sound : (c : Checked) (v : Verdict) → isSound c ≡ true → afterCheck c v ≡ v
+after-sound (sound end) v h = refl
+after-sound (faulty number byte) v h = absurd (let n : _≡_ {A = ℕ} 0 1 = cc in omega arith)
+
+-- a verdict, then another
+both-known : {same : Type 0} {first : ℕ → Type 0} (same′ : Type 0) (first′ : ℕ → Type 0) (v next : Verdict) → Known same first v → (same → Known same′ first′ next) → ((at : ℕ) → first at → first′ at)
+    → Known same′ first′ (unlessOurs v next)
+both-known same′ first′ ours next k f g = f k
+both-known same′ first′ (notOurs at) next k f g = g at k
+both-known same′ first′ (refusedAt number byte) next k f g = absurd k
+
+-- ---- our writer's year
+
+number-is : (v : BookYear) → Fits v → numberIn (yearBytes v) ≡ v .yearN
+number-is v f = ap (λ (y : ℕ). pos y -ℤ pos 2_000) (bytes-number v [] f) ∙ count-back 2_000 2_000 (v .yearN) (f .year)
+
+module _ (e : ℕ) (o : e ≤ epicycles) where
+  written-is : (N : ℤ) → badYear N ≡ false → writtenYear e N ≡ yearBytes (workedYear e N)
+  unfolding workedAnswer
+  written-is N h = rw (h, none-off e o N 24)
+
+  -- into any buffer that has room
+  pub written-anywhere : (N : ℤ) → badYear N ≡ false → (b : List ℕ) → 149 ≤ length b → afterwards b (workedAnswer e N b) ≡ writtenYear e N ++ drop 149 b
+  unfolding workedAnswer
+  written-anywhere N h b l =
+      rw (written-is N h) (rw (h, le-ltb (length b) 149 l, none-off e o N 24) (bytes-before (workedYear e N) (drop 149 b)))
+
+  -- ---- years one after the other
+
+  -- the first record of these years that is not ours, so many bytes after their start
+  record OtherIn (from : ℕ) (bs : List (List ℕ)) (at : ℕ) : Type 0 where
+    gone : ℕ
+    place : at ≡ from + gone
+    which : RecordAt from bs at
+    first : FirstAt (together bs) (writtenYears e (map numberIn bs)) gone
+
+  abbrev OursIn : List (List ℕ) → Type 0
+  OursIn bs = together bs ≡ writtenYears e (map numberIn bs)
+
+  module _ (v : BookYear) (f : Fits v) where
+    abbrev own : BookYear
+    own = workedYear e (v .yearN)
+
+    own-fits : Fits own
+    own-fits = worked-year-fits e o (v .yearN) (f .year)
+
+    own-written : yearBytes own ≡ writtenYear e (numberIn (yearBytes v))
+    own-written = sym (written-is (v .yearN) (f .year)) ∙ ap (writtenYear e) (sym (number-is v f))
+
+    own-number : v .yearN ≡ own .yearN
+    unfolding workedYear
+    own-number = refl
+
+    this-year : (from : ℕ) → Known (SameYear v own) (OtherRecord from v own) (yearVerdict e from (yearBytes v))
+    this-year from = rw (number-is v f) (year-beside v own f own-fits own-number from [])
+
+  years-known : (vs : List BookYear) (least from : ℕ) → Rising least vs → Known (OursIn (map yearBytes vs)) (OtherIn from (map yearBytes vs)) (yearsVerdict e from (map yearBytes vs))
+  unfolding yearsVerdict RecordAt
+  years-known [] least from g = refl
+  years-known (v ∷ vs) least from g =
+      let f = g .0 in
+      let b = yearBytes v in
+      let bs = map yearBytes vs in
+      let ws = writtenYears e (map numberIn bs) in
+      let i = years-known vs (yearIndex (v .yearN) + 1) (from + length b) (g .1 .1) in
+      both-known (OursIn (b ∷ bs)) (OtherIn from (b ∷ bs)) (yearVerdict e from b) (yearsVerdict e (from + length b) bs) (this-year v f from)
+      (λ s.
+      let same : b ≡ writtenYear e (numberIn b) = s [] ∙ own-written v f in
+      known-by
+      (λ k. ap₂ (λ (x y : List ℕ). x ++ y) same k)
+      (λ (at : ℕ) k.
+      record {
+        gone = length b + k .gone;
+        place = omega (arith, k .place);
+        which = inr (k .which);
+        first = subst (λ (x : List ℕ). FirstAt (b ++ together bs) (x ++ ws) (length b + k .gone)) same (later b (together bs) ws (k .gone) (k .first));
+      })
+      (yearsVerdict e (from + length b) bs) i)
+      (λ (at : ℕ) k.
+      let right : bytesOf (own v f) ws ≡ writtenYear e (numberIn b) ++ ws = bytes-before (own v f) ws ∙ ap (λ (x : List ℕ). x ++ ws) (own-written v f) in
+      record {
+        gone = k .gone;
+        place = k .place;
+        which = inl (k .which);
+        first = rw (← right, ← bytes-before v (together bs)) (k .first (together bs) ws);
+      })
+
+  -- where they are ours, no record is told
+  told-ours : (from : ℕ) (bs : List (List ℕ)) (v : Verdict) → Known (OursIn bs) (OtherIn from bs) v → OursIn bs → v ≡ ours
+  told-ours from bs ours k s = refl
+  told-ours from bs (notOurs at) k s =
+      let same : FirstAt (together bs) (together bs) (k .gone) = subst (λ (w : List ℕ). FirstAt (together bs) w (k .gone)) (sym s) (k .first) in
+      absurd (same .other refl)
+  told-ours from bs (refusedAt number byte) k s = absurd k
+
+  -- ---- the theorems
+
+  -- the first record of a book that is not ours
+  pub record FirstNotOurs (s : List ℕ) (at : ℕ) : Type 0 where
+    pub which : RecordAt 0 (partsOf s) at
+    pub first : FirstAt s (writtenYears e (numbersOf s)) at
+
+  module _ (s : List ℕ) where
+    pub refused-first : (number byte : ℕ) → bookOf s ≡ faulty number byte → verdictOf e s ≡ refusedAt number byte
+    unfolding verdictOf
+    refused-first number byte q = rw q
+
+    pub ours-accepted : verdictOf e s ≡ ours → isSound (bookOf s) ≡ true
+    unfolding verdictOf
+    ours-accepted q = passed (bookOf s) (yearsVerdict e 0 (partsOf s)) ours refl q .0
+
+    pub not-ours-accepted : (at : ℕ) → verdictOf e s ≡ notOurs at → isSound (bookOf s) ≡ true
+    unfolding verdictOf
+    not-ours-accepted at q = passed (bookOf s) (yearsVerdict e 0 (partsOf s)) (notOurs at) refl q .0
+
+    module _ (h : Bytes s) where
+      known : isSound (bookOf s) ≡ true → Known (OursIn (partsOf s)) (OtherIn 0 (partsOf s)) (yearsVerdict e 0 (partsOf s))
+      known c = let y = years-of s h c in rw (y .parts) (years-known (y .values) 0 0 (y .rises))
+
+      pub ours-then-written : verdictOf e s ≡ ours → s ≡ writtenYears e (numbersOf s)
+      unfolding verdictOf
+      ours-then-written q =
+          let p = passed (bookOf s) (yearsVerdict e 0 (partsOf s)) ours refl q in
+          sym (parts-together s (p .0)) ∙ subst (Known (OursIn (partsOf s)) (OtherIn 0 (partsOf s))) (p .1) (known (p .0))
+
+      pub written-then-ours : isSound (bookOf s) ≡ true → s ≡ writtenYears e (numbersOf s) → verdictOf e s ≡ ours
+      unfolding verdictOf
+      written-then-ours c q =
+          after-sound (bookOf s) (yearsVerdict e 0 (partsOf s)) c
+          ∙ told-ours 0 (partsOf s) (yearsVerdict e 0 (partsOf s)) (known c) (parts-together s c ∙ q)
+
+      pub not-ours-then-first : (at : ℕ) → verdictOf e s ≡ notOurs at → FirstNotOurs s at
+      unfolding verdictOf
+      not-ours-then-first at q =
+          let p = passed (bookOf s) (yearsVerdict e 0 (partsOf s)) (notOurs at) refl q in
+          let k : OtherIn 0 (partsOf s) at = subst (Known (OursIn (partsOf s)) (OtherIn 0 (partsOf s))) (p .1) (known (p .0)) in
+          let here : k .gone ≡ at = sym (k .place ∙ zero-add (k .gone)) in
+          record {
+            which = k .which;
+            first = subst (λ (x : List ℕ). FirstAt x (writtenYears e (numbersOf s)) at) (parts-together s (p .0))
+                (subst (λ (i : ℕ). FirstAt (together (partsOf s)) (writtenYears e (numbersOf s)) i) here (k .first));
+          }
+
+-- ---- our writer's own books
+
+-- Ns in range, each above the one before
+abbrev pub Above : ℤ → List ℤ → Type 0
+Above N [] = Unit
+Above N (M ∷ Ms) = N <ℤ M
+
+unfoldable pub RisingNs : List ℤ → Type 0
+RisingNs [] = Unit
+RisingNs (N ∷ Ns) = (badYear N ≡ false) × (Above N Ns × RisingNs Ns)
+
+abbrev AtLeast : ℕ → List ℤ → Type 0
+AtLeast least [] = Unit
+AtLeast least (N ∷ Ns) = least ≤ yearIndex N
+
+next-least : (N : ℤ) (Ns : List ℤ) → badYear N ≡ false → Above N Ns → RisingNs Ns → AtLeast (yearIndex N + 1) Ns
+unfolding RisingNs
+next-least N [] h a g = tt
+next-least N (M ∷ Ms) h a g =
+    let n = indexed 2_000 2_000 N (yearIndex N) h refl in
+    let m = indexed 2_000 2_000 M (yearIndex M) (g .0) refl in
+    omega (arith, is-lt (n .is) (m .is) a)
+
+module _ (e : ℕ) (o : e ≤ epicycles) where
+  worked-rise : (Ns : List ℤ) (least : ℕ) → AtLeast least Ns → RisingNs Ns → Rising least (map (workedYear e) Ns)
+  unfolding RisingNs workedYear
+  worked-rise [] least l g = tt
+  worked-rise (N ∷ Ns) least l g =
+      (worked-year-fits e o N (g .0), (l, worked-rise Ns (yearIndex N + 1) (next-least N Ns (g .0) (g .1 .0) (g .1 .1)) (g .1 .1)))
+
+  all-written : (Ns : List ℤ) → RisingNs Ns → allOf (map (workedYear e) Ns) ≡ writtenYears e Ns
+  unfolding RisingNs allOf
+  all-written [] g = refl
+  all-written (N ∷ Ns) g =
+      bytes-before (workedYear e N) (allOf (map (workedYear e) Ns)) ∙ ap₂ (λ (x y : List ℕ). x ++ y) (sym (written-is e o N (g .0))) (all-written Ns (g .1 .1))
+
+  own-again : (N : ℤ) → badYear N ≡ false → yearBytes (workedYear e N) ≡ writtenYear e (numberIn (yearBytes (workedYear e N)))
+  unfolding workedYear
+  own-again N h = sym (written-is e o N h) ∙ ap (writtenYear e) (sym (number-is (workedYear e N) (worked-year-fits e o N h)))
+
+  own-years : (Ns : List ℤ) → RisingNs Ns → OursIn e o (map yearBytes (map (workedYear e) Ns))
+  unfolding RisingNs
+  own-years [] g = refl
+  own-years (N ∷ Ns) g = ap₂ (λ (x y : List ℕ). x ++ y) (own-again N (g .0)) (own-years Ns (g .1 .1))
+
+  from-nought : (Ns : List ℤ) → AtLeast 0 Ns
+  from-nought [] = tt
+  from-nought (N ∷ Ns) = omega arith
+
+  pub rising-ours : (Ns : List ℤ) → RisingNs Ns → verdictOf e (writtenYears e Ns) ≡ ours
+  unfolding verdictOf
+  rising-ours Ns g =
+      let vs = map (workedYear e) Ns in
+      let r = worked-rise Ns 0 (from-nought Ns) g in
+      let bs = map yearBytes vs in
+      subst (λ (s : List ℕ). verdictOf e s ≡ ours) (all-written Ns g)
+      (after-sound (bookOf (allOf vs)) (yearsVerdict e 0 (partsOf (allOf vs))) (rising-accepted vs 0 0 r)
+      ∙ (ap (yearsVerdict e 0) (parts-of-rising vs r) ∙ told-ours e o 0 bs (yearsVerdict e 0 bs) (years-known e o vs 0 0 r) (own-years Ns g)))
