@@ -699,6 +699,9 @@ def partners():
     at_crossings = bytes_of(carried, *read_year(year_bytes(carried))[0][1:], [expected.crossing_values(carried, k) for k in range(24)])
     yield f"{AFTER[0]} = {listed(AFTER[1])}"
     yield f"atCrossings = {listed(at_crossings)}"
+    for name, n in (("ours-0", 0), ("ours-1", 1)):
+        terms = " ∷ ".join([*(term_text(expected.term_values(n, k))[1:-1] for k in range(24)), "[]"])
+        yield name, f"workedYear epicycles {given(n)} ≡ reckoned {given(n)} {expected.day_name(n)} {expected.mansion(n)} ({terms})"
     yield "whole", verifying(WHOLE)
     yield "none", verifying(NOTHING)
     yield "two", verifying(joined(WHOLE, AFTER))

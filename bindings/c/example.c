@@ -82,7 +82,7 @@ int main(void)
         printf("verified: the book is ours\n");
     refused = bhromilun_verify_book(sheet, sizeof sheet, &byte);
     if (refused == BHROMILUN_NOT_OURS)
-        printf("verified: the corrections are not ours from byte %" PRIu64 " on\n", byte);
+        printf("verified: the corrections are not ours at byte %" PRIu64 "\n", byte);
 
     book[7] = 2; /* term 0 on day 511 */
     refused = bhromilun_read_year(book, sizeof book, &read, &day_name, &mansion, days, minutes,

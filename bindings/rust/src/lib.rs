@@ -181,7 +181,7 @@ pub struct CorrectedYear<'a> {
     pub part: &'a [u8],
 }
 
-/// Whether a partner's book is ours. It prints as "ours" or "not ours from byte 5 on".
+/// Whether a partner's book is ours. It prints as "ours" or "not ours at byte 5".
 #[derive(Clone, Copy, Debug, PartialEq, Eq)]
 pub enum Verdict {
     /// Each of its years is, byte for byte, what [`write_year`] writes.
@@ -195,7 +195,7 @@ impl fmt::Display for Verdict {
     fn fmt(&self, f: &mut fmt::Formatter<'_>) -> fmt::Result {
         match self {
             Verdict::Ours => f.write_str("ours"),
-            Verdict::NotOurs { byte } => write!(f, "not ours from byte {byte} on"),
+            Verdict::NotOurs { byte } => write!(f, "not ours at byte {byte}"),
         }
     }
 }

@@ -84,7 +84,8 @@ pub fn partners_years(tally: &mut Tally, shelf: &[u8], ours: &Ours) {
         for record in 0..list.len() {
             for field in &list[record].fields()[1..] {
                 let mut list = list.clone();
-                list[record].set(*field, list[record].get(*field).wrapping_add(1));
+                let value = list[record].get(*field);
+                list[record].set(*field, value.wrapping_add(1));
                 put_together(&list, &mut bytes);
                 verify(tally, ours, &bytes, || format!("the year {n}, {bytes:02x?}"));
             }
