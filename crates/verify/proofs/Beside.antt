@@ -1,18 +1,18 @@
 -- A written year beside another of the same N: what is told is that they are the same, and then their bytes are, or the byte of the first
 -- record in which they differ. Assumes nothing.
 use mathlib.Core.Bool.{Bool, true, false, not, _||_}
-use mathlib.Core.List.{List, [], _∷_, _++_}
+use mathlib.Core.List.{List, [], _∷_}
 use mathlib.Core.Logic.{_⊎_, inl, inr}
 use mathlib.Core.Path.{_≡_, refl, sym, subst, _∙_, ap}
 use Prim.Native.Nat.{ℕ, suc, _+_, _*_, _/_, _%_, _<_}
 use native.Mathlib.Omega.{arith}
 use borrow.Author.Tests.{eqb-true, not-false, eq-eqb}
 use lib.Dec.{eqb}
-use lib.ListN.{length, getD, take, drop}
+use lib.ListN.{length, getD}
 use Rattle.reasoning.proofs.Answers.{both-no}
 use Rattle.law.specs.Document.{TermValues}
 use Rattle.law.specs.Index.{yearIndex, dayIndex}
-use Rattle.law.specs.Book.{BookYear, twoAt, recordSize, headSize, twoOf, termsOf, bytesOf, badTermValues, anyBad}
+use Rattle.law.specs.Book.{BookYear, recordSize, twoOf, termsOf, bytesOf, badTermValues, anyBad}
 use Rattle.values.proofs.WrittenIsRead.{two-back, TermFits, term-fits, ranges, Fits}
 use Rattle.verify.specs.Verify.{Verdict, ours, notOurs, refusedAt, headDiffers, termDiffers, notOursIf, termsVerdict, yearBeside}
 use Rattle.verify.proofs.FirstRecord.{TermAt, FirstAt, later}

@@ -4,14 +4,14 @@
 -- check accepts every book that is not ours. At any difference of the epicycles up to document 01's. Assumes nothing.
 use mathlib.Core.Bool.{Bool, true, false}
 use mathlib.Core.List.{List, [], _∷_, _++_, map}
-use mathlib.Core.Logic.{_⊎_, inl, inr}
+use mathlib.Core.Logic.{inl, inr}
 use mathlib.Core.Path.{_≡_, refl, sym, subst, _∙_, ap, ap₂}
 use Prim.Native.Nat.{ℕ, _+_, _≤_}
 use native.Mathlib.Nat.{zero-add}
 use native.Mathlib.Omega.{arith}
 use borrow.Author.Tests.{le-ltb}
 use lib.IntN.{ℤ, pos, _-ℤ_}
-use lib.ListN.{length, drop, replicate}
+use lib.ListN.{length, drop}
 use lib.Signed.{_<ℤ_}
 use Rattle.reasoning.specs.Answer.{afterwards}
 use Rattle.reasoning.proofs.Whole.{is-lt}
@@ -26,8 +26,8 @@ use Rattle.book.proofs.WholeBooks.{parts-together}
 use Rattle.values.proofs.WrittenIsRead.{bytes-before, bytes-number, Fits, worked-year-fits}
 use Rattle.values.proofs.ReadIsWritten.{Bytes}
 use Rattle.values.proofs.RisingYears.{allOf, Rising, rising-accepted}
-use Rattle.verify.specs.Verify.{Verdict, ours, notOurs, refusedAt, numberIn, yearVerdict, yearBeside, unlessOurs, yearsVerdict, afterCheck, verdictOf, writtenYear, writtenYears, numbersOf}
-use Rattle.verify.proofs.YearsOfBook.{yearBytes, parts-of-rising, YearsOf, years-of}
+use Rattle.verify.specs.Verify.{Verdict, ours, notOurs, refusedAt, numberIn, yearVerdict, unlessOurs, yearsVerdict, afterCheck, verdictOf, writtenYear, writtenYears, numbersOf}
+use Rattle.verify.proofs.YearsOfBook.{yearBytes, parts-of-rising, years-of}
 use Rattle.verify.proofs.FirstRecord.{RecordAt, FirstAt, later}
 use Rattle.verify.proofs.Beside.{Known, known-by, SameYear, OtherRecord, year-beside}
 

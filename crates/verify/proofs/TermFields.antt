@@ -1,7 +1,7 @@
 -- A term's record beside our values, as the machine compares them: the day that two bytes count is lowered by 4. Assumes nothing.
 use mathlib.Core.Bool.{true, false, not}
 use mathlib.Core.List.{List}
-use mathlib.Core.Path.{_≡_, refl, sym, subst, _∙_, ap}
+use mathlib.Core.Path.{_≡_, refl, subst, _∙_, ap}
 use Prim.Native.Nat.{ℕ, _+_, _<_}
 use native.Mathlib.Omega.{arith}
 use borrow.Author.Tests.{eq-eqb, ne-eqb}
@@ -16,7 +16,7 @@ use Rattle.reasoning.proofs.Indexed.{indexed}
 use Rattle.law.specs.Document.{badDay, TermValues}
 use Rattle.law.specs.Index.{dayIndex}
 use Rattle.law.specs.Book.{twoAt}
-use Rattle.units.proofs.Machine.{is-wide, is-read, Lowered, lowered}
+use Rattle.units.proofs.Machine.{is-wide, Lowered, lowered}
 use Rattle.units.proofs.Counts.{counted}
 use Rattle.book.proofs.BytesLeft.{two-drop}
 use Rattle.verify.specs.Verify.{termDiffers}

@@ -1,6 +1,6 @@
 -- What the code knows of a year's part at each turn: the head decides, or the terms that are left. Assumes nothing.
 use mathlib.Core.Bool.{true, false}
-use mathlib.Core.List.{List, _∷_, map}
+use mathlib.Core.List.{List, map}
 use mathlib.Core.Path.{_≡_, refl, sym, _∙_, ap}
 use Prim.Native.Nat.{ℕ, _+_, _*_, _≤_, _<_}
 use native.Mathlib.Numerals.{add-one}
@@ -26,7 +26,7 @@ use Rattle.sun.specs.Said.{valuesOfTerm}
 use Rattle.sun.specs.Worked.{zeroRecord, termsOrZeros, yearOrZeros, WorkedOut}
 use Rattle.values.proofs.GivenTerms.{term-next}
 use Rattle.values.proofs.WrittenIsRead.{ranges, worked-year-fits}
-use Rattle.verify.specs.Verify.{Verdict, ours, notOurs, headDiffers, termDiffers, notOursIf, termsVerdict, yearBeside, numberIn, yearVerdict}
+use Rattle.verify.specs.Verify.{Verdict, ours, notOurs, headDiffers, termDiffers, termsVerdict, yearBeside, numberIn, yearVerdict}
 
 -- a year in range is never refused: what is worked out is ours
 pub record Worked (e : ℕ) (N : ℤ) (r : WorkedYear) : Type 0 where

@@ -1,6 +1,6 @@
 -- A sound book is written years whose numbers rise, and the reader hands out the bytes of each. Assumes nothing.
 use mathlib.Core.Bool.{true}
-use mathlib.Core.List.{List, [], _∷_, _++_, map}
+use mathlib.Core.List.{List, [], _∷_, map}
 use mathlib.Core.Path.{_≡_, refl, sym, subst, _∙_, ap}
 use Prim.Native.Nat.{ℕ, zero, suc, _+_, _-_, _≤_, _<_}
 use native.Mathlib.Decide.{decLt}
@@ -8,7 +8,7 @@ use native.Mathlib.Omega.{arith}
 use lib.ListN.{length, take, drop, length-append, length-drop}
 use lib.Seq.{take-at, drop-at, drop-drop}
 use Rattle.law.specs.Index.{yearIndex}
-use Rattle.law.specs.Book.{BookYear, sound, nextYear, twoAt, leastAfter, yearFrom, bookFrom, bookOf, nextAt, handOut, partsFrom, partsOf, bytesOf, valuesIn}
+use Rattle.law.specs.Book.{BookYear, sound, nextYear, twoAt, leastAfter, yearFrom, bookFrom, bookOf, nextAt, partsFrom, partsOf, bytesOf, valuesIn}
 use Rattle.units.proofs.Counts.{back-count}
 use Rattle.book.proofs.BookSteps.{next-end, next-in, isSound}
 use Rattle.book.proofs.WholeBooks.{handed, by-dec}

@@ -8,7 +8,7 @@ use units::Refusal;
 ghost use mathlib.Core.Bool.{false};
 ghost use mathlib.Core.Path.{_≡_};
 ghost use Prim.Native.Nat.{_+_, _≤_, _^_};
-ghost use lib.ListN.{length, getD, drop};
+ghost use lib.ListN.{getD, drop};
 ghost use Rattle.law.specs.Document.{epicycles, badDay};
 ghost use Rattle.law.specs.Book.{twoAt};
 ghost use Rattle.sun.specs.Said.{valuesOfTerm};

@@ -1,7 +1,5 @@
 -- The day is compared first, and then the minute. Assumes nothing.
 use borrow.Author.Needs.{needs}
-use mir.Syntax.{w64}
-use mir.Val.{SFits}
 use Rattle.sun.specs.Said.{valuesOfTerm}
 use Rattle.verify.proofs.TermFields.{down, other-day, same-day}
 use Rattle.verify.proofs.term_differs.Statement.{statement}

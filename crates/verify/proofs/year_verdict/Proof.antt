@@ -1,13 +1,13 @@
 -- The head decides, or the terms that are left at each turn. Assumes nothing.
 use mathlib.Core.Bool.{false}
 use mathlib.Core.List.{map}
-use mathlib.Core.Path.{_≡_, refl, sym, subst, _∙_, ap}
-use Prim.Native.Nat.{ℕ, _+_, _*_, _-_, _≤_}
+use mathlib.Core.Path.{_≡_, sym, subst, _∙_}
+use Prim.Native.Nat.{_-_, _≤_}
 use native.Mathlib.Omega.{arith}
 use lib.IntN.{ℤ}
 use lib.ListN.{length, getD}
 use borrow.Author.Needs.{needs}
-use Rattle.law.specs.Document.{epicycles, badYear, badDay, badMinute, termsAnswer}
+use Rattle.law.specs.Document.{epicycles, badDay, badMinute, termsAnswer}
 use Rattle.law.specs.Book.{twoAt, anyBad}
 use Rattle.sun.specs.Said.{valuesOfTerm}
 use Rattle.sun.specs.Worked.{zeroRecord, WorkedOut}
