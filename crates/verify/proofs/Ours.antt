@@ -161,6 +161,14 @@ module _ (e : ℕ) (o : e ≤ epicycles) where
       known : isSound (bookOf s) ≡ true → Known (OursIn (partsOf s)) (OtherIn 0 (partsOf s)) (yearsVerdict e 0 (partsOf s))
       known c = let y = years-of s h c in rw (y .parts) (years-known (y .values) 0 0 (y .rises))
 
+      faulty-by : (c : Checked) (number byte : ℕ) → bookOf s ≡ c → afterCheck c (yearsVerdict e 0 (partsOf s)) ≡ refusedAt number byte → bookOf s ≡ faulty number byte
+      faulty-by (sound end) number byte p q = absurd (subst (Known (OursIn (partsOf s)) (OtherIn 0 (partsOf s))) q (known (ap isSound p)))
+      faulty-by (faulty n at) number byte p q = let m : n ≡ number = cc in let b : at ≡ byte = cc in p ∙ ap₂ faulty m b
+
+      pub refused-then-faulty : (number byte : ℕ) → verdictOf e s ≡ refusedAt number byte → bookOf s ≡ faulty number byte
+      unfolding verdictOf
+      refused-then-faulty number byte q = faulty-by (bookOf s) number byte refl q
+
       pub ours-then-written : verdictOf e s ≡ ours → s ≡ writtenYears e (numbersOf s)
       unfolding verdictOf
       ours-then-written q =
