@@ -1,6 +1,7 @@
 pub mod YearsOfBook
 pub mod Beside
 pub mod FirstRecord
+pub mod YearByYear
 pub mod Ours
 pub mod TermFields
 pub mod YearTurns

@@ -4,13 +4,12 @@
 -- check accepts every book that is not ours. At any difference of the epicycles up to document 01's. Assumes nothing.
 use mathlib.Core.Bool.{Bool, true, false}
 use mathlib.Core.List.{List, [], _∷_, _++_, map}
-use mathlib.Core.Logic.{inl, inr}
 use mathlib.Core.Path.{_≡_, refl, sym, subst, _∙_, ap, ap₂}
 use Prim.Native.Nat.{ℕ, _+_, _≤_}
 use native.Mathlib.Nat.{zero-add}
 use native.Mathlib.Omega.{arith}
 use borrow.Author.Tests.{le-ltb}
-use lib.IntN.{ℤ, pos, _-ℤ_}
+use lib.IntN.{ℤ}
 use lib.ListN.{length, drop}
 use lib.Signed.{_<ℤ_}
 use Rattle.reasoning.specs.Answer.{afterwards}
@@ -18,18 +17,18 @@ use Rattle.reasoning.proofs.Whole.{is-lt}
 use Rattle.reasoning.proofs.Indexed.{indexed}
 use Rattle.law.specs.Document.{epicycles, badYear}
 use Rattle.law.specs.Index.{yearIndex}
-use Rattle.law.specs.Book.{BookYear, Checked, sound, faulty, bookOf, partsOf, together, bytesOf, workedYear, workedAnswer}
+use Rattle.law.specs.Book.{Checked, sound, faulty, bookOf, partsOf, together, workedYear, workedAnswer}
 use Rattle.motion.proofs.TermAnswers.{none-off}
-use Rattle.units.proofs.Counts.{count-back}
 use Rattle.book.proofs.BookSteps.{isSound}
 use Rattle.book.proofs.WholeBooks.{parts-together}
-use Rattle.values.proofs.WrittenIsRead.{bytes-before, bytes-number, Fits, worked-year-fits}
+use Rattle.values.proofs.WrittenIsRead.{bytes-before, worked-year-fits}
 use Rattle.values.proofs.ReadIsWritten.{Bytes}
 use Rattle.values.proofs.RisingYears.{allOf, Rising, rising-accepted}
-use Rattle.verify.specs.Verify.{Verdict, ours, notOurs, refusedAt, numberIn, yearVerdict, unlessOurs, yearsVerdict, afterCheck, verdictOf, writtenYear, writtenYears, numbersOf}
+use Rattle.verify.specs.Verify.{Verdict, ours, notOurs, refusedAt, numberIn, yearsVerdict, afterCheck, verdictOf, writtenYear, writtenYears, numbersOf}
 use Rattle.verify.proofs.YearsOfBook.{yearBytes, parts-of-rising, years-of}
-use Rattle.verify.proofs.FirstRecord.{RecordAt, FirstAt, later}
-use Rattle.verify.proofs.Beside.{Known, known-by, SameYear, OtherRecord, year-beside}
+use Rattle.verify.proofs.FirstRecord.{RecordAt, FirstAt}
+use Rattle.verify.proofs.Beside.{Known}
+use Rattle.verify.proofs.YearByYear.{number-is, written-is, OtherIn, OursIn, years-known, told-ours}
 
 -- ---- after the check
 
@@ -46,99 +45,7 @@ pub after-sound : (c : Checked) (v : Verdict) → isSound c ≡ true → afterCh
 after-sound (sound end) v h = refl
 after-sound (faulty number byte) v h = absurd (let n : _≡_ {A = ℕ} 0 1 = cc in omega arith)
 
--- a verdict, then another
-both-known : {same : Type 0} {first : ℕ → Type 0} (same′ : Type 0) (first′ : ℕ → Type 0) (v next : Verdict) → Known same first v → (same → Known same′ first′ next) → ((at : ℕ) → first at → first′ at)
-    → Known same′ first′ (unlessOurs v next)
-both-known same′ first′ ours next k f g = f k
-both-known same′ first′ (notOurs at) next k f g = g at k
-both-known same′ first′ (refusedAt number byte) next k f g = absurd k
-
--- ---- our writer's year
-
-number-is : (v : BookYear) → Fits v → numberIn (yearBytes v) ≡ v .yearN
-number-is v f = ap (λ (y : ℕ). pos y -ℤ pos 2_000) (bytes-number v [] f) ∙ count-back 2_000 2_000 (v .yearN) (f .year)
-
 module _ (e : ℕ) (o : e ≤ epicycles) where
-  written-is : (N : ℤ) → badYear N ≡ false → writtenYear e N ≡ yearBytes (workedYear e N)
-  unfolding workedAnswer
-  written-is N h = rw (h, none-off e o N 24)
-
-  -- into any buffer that has room
-  pub written-anywhere : (N : ℤ) → badYear N ≡ false → (b : List ℕ) → 149 ≤ length b → afterwards b (workedAnswer e N b) ≡ writtenYear e N ++ drop 149 b
-  unfolding workedAnswer
-  written-anywhere N h b l =
-      rw (written-is N h) (rw (h, le-ltb (length b) 149 l, none-off e o N 24) (bytes-before (workedYear e N) (drop 149 b)))
-
-  -- ---- years one after the other
-
-  -- the first record of these years that is not ours, so many bytes after their start
-  record OtherIn (from : ℕ) (bs : List (List ℕ)) (at : ℕ) : Type 0 where
-    gone : ℕ
-    place : at ≡ from + gone
-    which : RecordAt from bs at
-    first : FirstAt (together bs) (writtenYears e (map numberIn bs)) gone
-
-  abbrev OursIn : List (List ℕ) → Type 0
-  OursIn bs = together bs ≡ writtenYears e (map numberIn bs)
-
-  module _ (v : BookYear) (f : Fits v) where
-    abbrev own : BookYear
-    own = workedYear e (v .yearN)
-
-    own-fits : Fits own
-    own-fits = worked-year-fits e o (v .yearN) (f .year)
-
-    own-written : yearBytes own ≡ writtenYear e (numberIn (yearBytes v))
-    own-written = sym (written-is (v .yearN) (f .year)) ∙ ap (writtenYear e) (sym (number-is v f))
-
-    own-number : v .yearN ≡ own .yearN
-    unfolding workedYear
-    own-number = refl
-
-    this-year : (from : ℕ) → Known (SameYear v own) (OtherRecord from v own) (yearVerdict e from (yearBytes v))
-    this-year from = rw (number-is v f) (year-beside v own f own-fits own-number from [])
-
-  years-known : (vs : List BookYear) (least from : ℕ) → Rising least vs → Known (OursIn (map yearBytes vs)) (OtherIn from (map yearBytes vs)) (yearsVerdict e from (map yearBytes vs))
-  unfolding yearsVerdict RecordAt
-  years-known [] least from g = refl
-  years-known (v ∷ vs) least from g =
-      let f = g .0 in
-      let b = yearBytes v in
-      let bs = map yearBytes vs in
-      let ws = writtenYears e (map numberIn bs) in
-      let i = years-known vs (yearIndex (v .yearN) + 1) (from + length b) (g .1 .1) in
-      both-known (OursIn (b ∷ bs)) (OtherIn from (b ∷ bs)) (yearVerdict e from b) (yearsVerdict e (from + length b) bs) (this-year v f from)
-      (λ s.
-      let same : b ≡ writtenYear e (numberIn b) = s [] ∙ own-written v f in
-      known-by
-      (λ k. ap₂ (λ (x y : List ℕ). x ++ y) same k)
-      (λ (at : ℕ) k.
-      record {
-        gone = length b + k .gone;
-        place = omega (arith, k .place);
-        which = inr (k .which);
-        first = subst (λ (x : List ℕ). FirstAt (b ++ together bs) (x ++ ws) (length b + k .gone)) same (later b (together bs) ws (k .gone) (k .first));
-      })
-      (yearsVerdict e (from + length b) bs) i)
-      (λ (at : ℕ) k.
-      let right : bytesOf (own v f) ws ≡ writtenYear e (numberIn b) ++ ws = bytes-before (own v f) ws ∙ ap (λ (x : List ℕ). x ++ ws) (own-written v f) in
-      record {
-        gone = k .gone;
-        place = k .place;
-        which = inl (k .which);
-        first = rw (← right, ← bytes-before v (together bs)) (k .first (together bs) ws);
-      })
-
-  -- where they are ours, no record is told
-  told-ours : (from : ℕ) (bs : List (List ℕ)) (v : Verdict) → Known (OursIn bs) (OtherIn from bs) v → OursIn bs → v ≡ ours
-  told-ours from bs ours k s = refl
-  told-ours from bs (notOurs at) k s =
-      let same : FirstAt (together bs) (together bs) (k .gone) = subst (λ (w : List ℕ). FirstAt (together bs) w (k .gone)) (sym s) (k .first) in
-      absurd (same .other refl)
-  told-ours from bs (refusedAt number byte) k s = absurd k
-
-  -- ---- the theorems
-
   -- the first record of a book that is not ours
   pub record FirstNotOurs (s : List ℕ) (at : ℕ) : Type 0 where
     pub which : RecordAt 0 (partsOf s) at
@@ -158,11 +65,11 @@ module _ (e : ℕ) (o : e ≤ epicycles) where
     not-ours-accepted at q = passed (bookOf s) (yearsVerdict e 0 (partsOf s)) (notOurs at) refl q .0
 
     module _ (h : Bytes s) where
-      known : isSound (bookOf s) ≡ true → Known (OursIn (partsOf s)) (OtherIn 0 (partsOf s)) (yearsVerdict e 0 (partsOf s))
-      known c = let y = years-of s h c in rw (y .parts) (years-known (y .values) 0 0 (y .rises))
+      known : isSound (bookOf s) ≡ true → Known (OursIn e o (partsOf s)) (OtherIn e o 0 (partsOf s)) (yearsVerdict e 0 (partsOf s))
+      known c = let y = years-of s h c in rw (y .parts) (years-known e o (y .values) 0 0 (y .rises))
 
       faulty-by : (c : Checked) (number byte : ℕ) → bookOf s ≡ c → afterCheck c (yearsVerdict e 0 (partsOf s)) ≡ refusedAt number byte → bookOf s ≡ faulty number byte
-      faulty-by (sound end) number byte p q = absurd (subst (Known (OursIn (partsOf s)) (OtherIn 0 (partsOf s))) q (known (ap isSound p)))
+      faulty-by (sound end) number byte p q = absurd (subst (Known (OursIn e o (partsOf s)) (OtherIn e o 0 (partsOf s))) q (known (ap isSound p)))
       faulty-by (faulty n at) number byte p q = let m : n ≡ number = cc in let b : at ≡ byte = cc in p ∙ ap₂ faulty m b
 
       pub refused-then-faulty : (number byte : ℕ) → verdictOf e s ≡ refusedAt number byte → bookOf s ≡ faulty number byte
@@ -173,19 +80,19 @@ module _ (e : ℕ) (o : e ≤ epicycles) where
       unfolding verdictOf
       ours-then-written q =
           let p = passed (bookOf s) (yearsVerdict e 0 (partsOf s)) ours refl q in
-          sym (parts-together s (p .0)) ∙ subst (Known (OursIn (partsOf s)) (OtherIn 0 (partsOf s))) (p .1) (known (p .0))
+          sym (parts-together s (p .0)) ∙ subst (Known (OursIn e o (partsOf s)) (OtherIn e o 0 (partsOf s))) (p .1) (known (p .0))
 
       pub written-then-ours : isSound (bookOf s) ≡ true → s ≡ writtenYears e (numbersOf s) → verdictOf e s ≡ ours
       unfolding verdictOf
       written-then-ours c q =
           after-sound (bookOf s) (yearsVerdict e 0 (partsOf s)) c
-          ∙ told-ours 0 (partsOf s) (yearsVerdict e 0 (partsOf s)) (known c) (parts-together s c ∙ q)
+          ∙ told-ours e o 0 (partsOf s) (yearsVerdict e 0 (partsOf s)) (known c) (parts-together s c ∙ q)
 
       pub not-ours-then-first : (at : ℕ) → verdictOf e s ≡ notOurs at → FirstNotOurs s at
       unfolding verdictOf
       not-ours-then-first at q =
           let p = passed (bookOf s) (yearsVerdict e 0 (partsOf s)) (notOurs at) refl q in
-          let k : OtherIn 0 (partsOf s) at = subst (Known (OursIn (partsOf s)) (OtherIn 0 (partsOf s))) (p .1) (known (p .0)) in
+          let k : OtherIn e o 0 (partsOf s) at = subst (Known (OursIn e o (partsOf s)) (OtherIn e o 0 (partsOf s))) (p .1) (known (p .0)) in
           let here : k .gone ≡ at = sym (k .place ∙ zero-add (k .gone)) in
           record {
             which = k .which;
@@ -217,6 +124,12 @@ next-least N (M ∷ Ms) h a g =
     omega (arith, is-lt (n .is) (m .is) a)
 
 module _ (e : ℕ) (o : e ≤ epicycles) where
+  -- into any buffer that has room
+  pub written-anywhere : (N : ℤ) → badYear N ≡ false → (b : List ℕ) → 149 ≤ length b → afterwards b (workedAnswer e N b) ≡ writtenYear e N ++ drop 149 b
+  unfolding workedAnswer
+  written-anywhere N h b l =
+      rw (written-is e o N h) (rw (h, le-ltb (length b) 149 l, none-off e o N 24) (bytes-before (workedYear e N) (drop 149 b)))
+
   worked-rise : (Ns : List ℤ) (least : ℕ) → AtLeast least Ns → RisingNs Ns → Rising least (map (workedYear e) Ns)
   unfolding RisingNs workedYear
   worked-rise [] least l g = tt
