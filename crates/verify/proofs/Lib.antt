@@ -1,4 +1,5 @@
 pub mod YearsOfBook
+pub mod OneFirst
 pub mod Beside
 pub mod FirstRecord
 pub mod YearByYear

@@ -1,32 +1,34 @@
 -- Document 02's request K4, over its definitions. A sound book gets "ours" exactly when it is, byte for byte, our writer's years of its own
--- Ns put together, whoever wrote it. Our writer's years with rising N always get it. Otherwise the byte told is that of the first record
--- that differs: all before it is ours, and it is not. A book that is refused is refused before any comparison, and only such a one is: the
+-- Ns put together, whoever wrote it. Our writer's years with rising N always get it. Otherwise the byte told is exactly that of the first
+-- record that differs: all before it is ours, and it is not. A book is refused exactly as the check refuses it, before any comparison: the
 -- check accepts every book that is not ours. At any difference of the epicycles up to document 01's. Assumes nothing.
 use mathlib.Core.Bool.{Bool, true, false}
 use mathlib.Core.List.{List, [], _∷_, _++_, map}
 use mathlib.Core.Path.{_≡_, refl, sym, subst, _∙_, ap, ap₂}
-use Prim.Native.Nat.{ℕ, _+_, _≤_}
+use Prim.Native.Nat.{ℕ, _+_, _-_, _≤_, _<_}
+use native.Mathlib.Decide.{decLt}
 use native.Mathlib.Nat.{zero-add}
 use native.Mathlib.Omega.{arith}
 use borrow.Author.Tests.{le-ltb}
 use lib.IntN.{ℤ}
-use lib.ListN.{length, drop}
+use lib.ListN.{length, getD, drop}
 use lib.Signed.{_<ℤ_}
 use Rattle.reasoning.specs.Answer.{afterwards}
 use Rattle.reasoning.proofs.Whole.{is-lt}
 use Rattle.reasoning.proofs.Indexed.{indexed}
 use Rattle.law.specs.Document.{epicycles, badYear}
 use Rattle.law.specs.Index.{yearIndex}
-use Rattle.law.specs.Book.{Checked, sound, faulty, bookOf, partsOf, together, workedYear, workedAnswer}
+use Rattle.law.specs.Book.{Checked, sound, faulty, recordSize, bookOf, partsOf, together, workedYear, workedAnswer}
 use Rattle.motion.proofs.TermAnswers.{none-off}
 use Rattle.book.proofs.BookSteps.{isSound}
-use Rattle.book.proofs.WholeBooks.{parts-together}
+use Rattle.book.proofs.WholeBooks.{by-dec, parts-together}
 use Rattle.values.proofs.WrittenIsRead.{bytes-before, worked-year-fits}
 use Rattle.values.proofs.ReadIsWritten.{Bytes}
 use Rattle.values.proofs.RisingYears.{allOf, Rising, rising-accepted}
 use Rattle.verify.specs.Verify.{Verdict, ours, notOurs, refusedAt, numberIn, yearsVerdict, afterCheck, verdictOf, writtenYear, writtenYears, numbersOf}
 use Rattle.verify.proofs.YearsOfBook.{yearBytes, parts-of-rising, years-of}
-use Rattle.verify.proofs.FirstRecord.{RecordAt, FirstAt}
+use Rattle.verify.proofs.FirstRecord.{RecordAt, recordIn, FirstAt}
+use Rattle.verify.proofs.OneFirst.{ends-before, same-record}
 use Rattle.verify.proofs.Beside.{Known}
 use Rattle.verify.proofs.YearByYear.{number-is, written-is, OtherIn, OursIn, years-known, told-ours}
 
@@ -99,6 +101,29 @@ module _ (e : ℕ) (o : e ≤ epicycles) where
             first = subst (λ (x : List ℕ). FirstAt x (writtenYears e (numbersOf s)) at) (parts-together s (p .0))
                 (subst (λ (i : ℕ). FirstAt (together (partsOf s)) (writtenYears e (numbersOf s)) i) here (k .first));
           }
+
+      -- there is only one such record, and its byte is told
+      not-before : isSound (bookOf s) ≡ true → (p q : ℕ) → FirstNotOurs s p → FirstNotOurs s q → p < q → ⊥
+      not-before c p q f g l =
+          let y = years-of s h c in
+          let all : together (map yearBytes (y .values)) ≡ s = ap together (sym (y .parts)) ∙ parts-together s c in
+          let z : p - 0 ≡ p = omega arith in
+          let ends : p + recordSize (getD s p 0) ≤ q = rw (all, z) at (ends-before (y .values) 0 0 p q (y .rises) (rw (y .parts) at (f .which)) (rw (y .parts) at (g .which)) l) in
+          f .first .other (same-record s (writtenYears e (numbersOf s)) p (recordSize (getD s p 0)) q (f .first .before) (g .first .before) ends)
+
+      one-first : isSound (bookOf s) ≡ true → (p q : ℕ) → FirstNotOurs s p → FirstNotOurs s q → p ≡ q
+      one-first c p q f g =
+          by-dec (decLt p q) (λ l. absurd (not-before c p q f g l))
+          (λ n. by-dec (decLt q p) (λ l. absurd (not-before c q p g f l)) (λ m. omega arith))
+
+      by-verdict : isSound (bookOf s) ≡ true → (at : ℕ) → FirstNotOurs s at → (v : Verdict) → verdictOf e s ≡ v → v ≡ notOurs at
+      by-verdict c at f ours q = absurd (f .first .other (ap (recordIn s at) (ours-then-written q)))
+      by-verdict c at f (notOurs p) q = ap notOurs (one-first c p at (not-ours-then-first p q) f)
+      by-verdict c at f (refusedAt number byte) q =
+          absurd (let z : _≡_ {A = Bool} false true = ap isSound (sym (refused-then-faulty number byte q)) ∙ c in let n : _≡_ {A = ℕ} 0 1 = cc in omega arith)
+
+      pub first-then-not-ours : isSound (bookOf s) ≡ true → (at : ℕ) → FirstNotOurs s at → verdictOf e s ≡ notOurs at
+      first-then-not-ours c at f = by-verdict c at f (verdictOf e s) refl
 
 -- ---- our writer's own books
 
