@@ -1,8 +1,9 @@
 /* The calls of libbhromilun.a, which `bash bindings/build` writes for each target that it knows.
 
-   Each call answers 0, or the number of its refusal; bhromilun_verify_book has one answer more, which no
-   refusal has for its number. Below, "stores" says of every pointer on which answers its place is stored; on every other answer that place stays as it was. An array or a buffer
-   is stored whole, as far as the call fills it, or not at all.
+   Each call answers 0, or the number of its refusal; bhromilun_verify_book has one answer more, which is
+   the number of no refusal. Below, "stores" says of every pointer on which answers its place is stored;
+   on every other answer that place stays as it was. An array or a buffer is stored whole, as far as the
+   call fills it, or not at all.
 
    The caller sees to it that
    - no pointer is null, that of a buffer of length 0 neither, and each is aligned for its type;

@@ -77,11 +77,9 @@ int main(void)
     printf("corrected: year %" PRId64 " from %s, %" PRIu64 " bytes\n",
            n, which == 0 ? "the corrections" : "the main book", end - start);
 
-    refused = bhromilun_verify_book(book, sizeof book, &byte);
-    if (refused == 0)
+    if (bhromilun_verify_book(book, sizeof book, &byte) == 0)
         printf("verified: the book is ours\n");
-    refused = bhromilun_verify_book(sheet, sizeof sheet, &byte);
-    if (refused == BHROMILUN_NOT_OURS)
+    if (bhromilun_verify_book(sheet, sizeof sheet, &byte) == BHROMILUN_NOT_OURS)
         printf("verified: the corrections are not ours at byte %" PRIu64 "\n", byte);
 
     book[7] = 2; /* term 0 on day 511 */

@@ -1,7 +1,8 @@
 //! The calls in their C shape, with references for pointers. Each answers 0 or the refusal's number, and
-//! [`verify_book`] a number of its own too, and stores the rest in what it is lent last: where this file does not say otherwise, all of it on 0 and
+//! stores the rest in what it is lent last: where this file does not say otherwise, all of it on 0 and
 //! nothing on a refusal. So a caller can keep its values in arrays of its own, and sees what a refusal
-//! leaves as it was. A length or a place in a book is a number of 64 bits, also where pointers are shorter.
+//! leaves as it was. [`verify_book`] has one answer more, [`NOT_OURS`]. A length or a place in a book is a
+//! number of 64 bits, also where pointers are shorter.
 
 // What C's caller must see to, the types do here: a reference is never null, is aligned, and leads to a whole
 // number or array; a slice has its length; and nothing lent by `&mut` overlaps anything else.

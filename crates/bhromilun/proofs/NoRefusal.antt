@@ -1,5 +1,6 @@
--- For C a book that is ours is 0 and stores nothing, and one with a record that is not ours is 100 and stores its byte, as the header says;
--- no refusal has that number. The promise alone would hold with another in the definition and the code together. Assumes nothing.
+-- For C a book that is ours is 0 and stores nothing, one with a record that is not ours is 100 and stores its byte, and a refusal is its own
+-- number and stores its byte, as the header says; no refusal has the number 100. The promise alone would hold with others in the definition
+-- and the code together. Assumes nothing.
 use mathlib.Core.Path.{_≡_, refl, sym, _∙_, ap}
 use Prim.Native.Nat.{ℕ}
 use native.Mathlib.Omega.{arith}
@@ -14,6 +15,9 @@ ours-is-0 = refl
 
 pub not-ours-is-100 : (at : ℕ) → verdictNumber (notOurs at) ≡ 100
 not-ours-is-100 at = refl
+
+pub its-number : (number byte : ℕ) → verdictNumber (refusedAt number byte) ≡ number
+its-number number byte = refl
 
 pub nothing-stored : (before : ℕ) → verdictByte before ours ≡ before
 nothing-stored before = refl

@@ -10,7 +10,7 @@ use native.Mathlib.Decide.{decLt}
 use native.Mathlib.Nat.{zero-add}
 use native.Mathlib.Omega.{arith}
 use borrow.Author.Tests.{le-ltb}
-use lib.IntN.{ℤ}
+use lib.IntN.{ℤ, pos, negℤ}
 use lib.ListN.{length, getD, drop}
 use lib.Signed.{_<ℤ_}
 use Rattle.reasoning.specs.Answer.{afterwards}
@@ -189,3 +189,8 @@ module _ (e : ℕ) (o : e ≤ epicycles) where
       subst (λ (s : List ℕ). verdictOf e s ≡ ours) (all-written Ns g)
       (after-sound (bookOf (allOf vs)) (yearsVerdict e 0 (partsOf (allOf vs))) (rising-accepted vs 0 0 r)
       ∙ (ap (yearsVerdict e 0) (parts-of-rising vs r) ∙ told-ours e o 0 bs (yearsVerdict e 0 bs) (years-known e o vs 0 0 r) (own-years Ns g)))
+
+-- such Ns are, from the least to the most
+pub such-ns : RisingNs (negℤ (pos 2_000) ∷ pos 0 ∷ pos 2_000 ∷ [])
+unfolding RisingNs
+such-ns = (refl, (record { lt = tt }, (refl, (record { lt = tt }, (refl, (tt, tt))))))
