@@ -27,7 +27,7 @@ head-size : (v : BookYear) (r : List ℕ) → recordSize (getD (yearBytes v ++ r
 unfolding bytesOf recordSize
 head-size v r = refl
 
--- the bytes left to a record that starts at a byte
+-- the length of the record that starts at a byte
 abbrev sizeAt : List ℕ → ℕ → ℕ
 sizeAt s gone = recordSize (getD s gone 0)
 

@@ -103,8 +103,8 @@ module _ (e : ℕ) (o : e ≤ epicycles) where
           }
 
       -- there is only one such record, and its byte is told
-      not-before : isSound (bookOf s) ≡ true → (p q : ℕ) → FirstNotOurs s p → FirstNotOurs s q → p < q → ⊥
-      not-before c p q f g l =
+      not-earlier : isSound (bookOf s) ≡ true → (p q : ℕ) → FirstNotOurs s p → FirstNotOurs s q → p < q → ⊥
+      not-earlier c p q f g l =
           let y = years-of s h c in
           let all : together (map yearBytes (y .values)) ≡ s = ap together (sym (y .parts)) ∙ parts-together s c in
           let z : p - 0 ≡ p = omega arith in
@@ -113,8 +113,8 @@ module _ (e : ℕ) (o : e ≤ epicycles) where
 
       one-first : isSound (bookOf s) ≡ true → (p q : ℕ) → FirstNotOurs s p → FirstNotOurs s q → p ≡ q
       one-first c p q f g =
-          by-dec (decLt p q) (λ l. absurd (not-before c p q f g l))
-          (λ n. by-dec (decLt q p) (λ l. absurd (not-before c q p g f l)) (λ m. omega arith))
+          by-dec (decLt p q) (λ l. absurd (not-earlier c p q f g l))
+          (λ n. by-dec (decLt q p) (λ l. absurd (not-earlier c q p g f l)) (λ m. omega arith))
 
       by-verdict : isSound (bookOf s) ≡ true → (at : ℕ) → FirstNotOurs s at → (v : Verdict) → verdictOf e s ≡ v → v ≡ notOurs at
       by-verdict c at f ours q = absurd (f .first .other (ap (recordIn s at) (ours-then-written q)))
@@ -149,7 +149,7 @@ next-least N (M ∷ Ms) h a g =
     omega (arith, is-lt (n .is) (m .is) a)
 
 module _ (e : ℕ) (o : e ≤ epicycles) where
-  -- into any buffer that has room
+  -- the writer leaves that year in any buffer that has room, and the later bytes as they were
   pub written-anywhere : (N : ℤ) → badYear N ≡ false → (b : List ℕ) → 149 ≤ length b → afterwards b (workedAnswer e N b) ≡ writtenYear e N ++ drop 149 b
   unfolding workedAnswer
   written-anywhere N h b l =
