@@ -1,6 +1,7 @@
 // The term book, run and compared: years written and their refusals, then damaged books. Standard input has
 // changes of a base book, one after the other: the new length, the number of bytes changed, and each place
 // and byte. tests/expected.py makes stdin and stdout.
+#![tactic(auto)]
 mod bytes;
 mod corrected;
 mod damaged;

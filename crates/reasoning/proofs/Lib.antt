@@ -1,7 +1,7 @@
 pub mod Every
 pub mod Whole
 pub mod HeldFast
-pub mod ByHand
+pub mod Stored
 pub mod Indexed
 pub mod Answers
 pub mod InOrder

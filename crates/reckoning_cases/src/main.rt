@@ -1,5 +1,6 @@
 // Prints what document 01 has run and compared: every table entry, the figures of sources 002, 003 and
 // 004, and a spread of years, anomalies, days, terms and local times with their limits. tests/expected.py makes stdout.
+#![tactic(auto)]
 mod answers;
 mod each;
 mod entries;

@@ -1,6 +1,7 @@
 // Draws the wall of the year that the first line of standard input asks, in SVG: its 24 terms round a ring, the winter solstice at
 // the top, and inside the sun at each midnight and the year. Nothing but a picture goes to standard output: a refusal and a failed
 // read or write are told on standard error, since there is no exit status to give.
+#![tactic(auto)]
 mod circle;
 mod middle;
 mod midnights;

@@ -1,6 +1,7 @@
 // Answers each line of standard input, in order: a year's mean solstice and mansion, or a refusal. It
 // keeps the line so far as a small state, so memory does not grow; a write is made for a block read, not for a line.
 // There is no exit status to give: a failed read or write is told on standard error, and ends the program.
+#![tactic(auto)]
 use libc::{STDIN_FILENO, STDOUT_FILENO};
 use request::Line;
 

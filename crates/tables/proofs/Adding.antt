@@ -6,7 +6,7 @@ use native.Mathlib.Nat.{not-suc-le-zero, le_of_suc-le-suc}
 use native.Mathlib.Numerals.{add-one}
 use native.Mathlib.Omega.{arith}
 use lib.ListN.{length, get_or, set, take, drop, replicate}
-use Rattle.reasoning.proofs.ByHand.{more_stored}
+use Rattle.reasoning.proofs.Stored.{more_stored}
 use Rattle.law.specs.Sines.{sines}
 use Rattle.law.specs.Entry.{last_sine, sine_entry}
 use Rattle.law.proofs.Rules.{sine_step, sine_top}

@@ -1,6 +1,7 @@
 // The sine table (541 entries, a step of 10′) and the tangent table (131, a step of 1′), for the radius 10,000,000:
 // a whole table, one entry, or two entries of the sines with the step from each; past a table's end these are 0. No public function
 // has a `requires`.
+#![tactic(auto)]
 mod sines;
 mod tangents;
 

@@ -1,5 +1,6 @@
 // Writes the term book of the year that the first line of standard input asks, or a refusal. No line at all
 // is refused as an empty one is. There is no exit status to give: a failed read or write is told on standard error.
+#![tactic(auto)]
 use console::Reading;
 use libc::STDOUT_FILENO;
 use units::Signed;

@@ -1,4 +1,5 @@
 // A year of the term book between its bytes and its values, and the bureau's own year written. No public function has a `requires`.
+#![tactic(auto)]
 mod head;
 mod read;
 mod worked_year;

@@ -8,7 +8,7 @@ use lib.ListN.{length, get_or, set, take, drop, replicate, length-map, get_or-ma
 use lib.Seq.{take_all}
 use borrow.Author.Rules.{rules, sfits_of}
 use mir.Facts.{to_z-of_z}
-use Rattle.reasoning.proofs.ByHand.{more_stored}
+use Rattle.reasoning.proofs.Stored.{more_stored}
 use Rattle.law.specs.Document.{TermValues}
 use Rattle.sun.specs.Worked.{zero_record}
 use Rattle.sun.specs.Said.{values_of_term}
