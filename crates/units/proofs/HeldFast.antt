@@ -72,36 +72,36 @@ signed_back_lem (signed.Refused r) = ap signed.Refused (refusal_back r)
 
 -- ---- the functions
 
-pub refusal_number_held : Held refusal-number.ended (λ M. refusal-number.clauses {M = M})
+pub refusal_number_held : Held refusal-number.ended (λ M 𝓤. refusal-number.clauses {M = M} {𝓤 = 𝓤})
 refusal_number_held M 𝓤 𝓛 mem run κs a = by_facts 𝓤 (λ z z' w w' p q. (one p q, refl))
 
-pub year_index_held : Held year-index.ended (λ M. year-index.clauses {M = M})
+pub year_index_held : Held year-index.ended (λ M 𝓤. year-index.clauses {M = M} {𝓤 = 𝓤})
 year_index_held M 𝓤 𝓛 mem run κs a = by_facts 𝓤 (λ z z' w w' p q. (one_said said_number number_back number_back_lem p q, refl))
 
-pub day_index_held : Held day-index.ended (λ M. day-index.clauses {M = M})
+pub day_index_held : Held day-index.ended (λ M 𝓤. day-index.clauses {M = M} {𝓤 = 𝓤})
 day_index_held M 𝓤 𝓛 mem run κs a = by_facts 𝓤 (λ z z' w w' p q. (one_said said_number number_back number_back_lem p q, refl))
 
-pub no_room_held : Held no_room.ended (λ M. no_room.clauses {M = M})
+pub no_room_held : Held no_room.ended (λ M 𝓤. no_room.clauses {M = M} {𝓤 = 𝓤})
 no_room_held M 𝓤 𝓛 mem run κs a = by_facts 𝓤 (λ z z' w w' p q. (one p q, refl))
 
-pub size_held : Held size.ended (λ M. size.clauses {M = M})
+pub size_held : Held size.ended (λ M 𝓤. size.clauses {M = M} {𝓤 = 𝓤})
 size_held M 𝓤 𝓛 mem run κs a = by_facts 𝓤 (λ z z' w w' p q. (one p q, refl))
 
-pub half_up_held : Held half_up.ended (λ M. half_up.clauses {M = M})
+pub half_up_held : Held half_up.ended (λ M 𝓤. half_up.clauses {M = M} {𝓤 = 𝓤})
 half_up_held M 𝓤 𝓛 mem run κs a = by_facts 𝓤 (λ z z' w w' p q. (one p q, refl))
 
-pub in_circle_held : Held in-circle.ended (λ M. in-circle.clauses {M = M})
+pub in_circle_held : Held in-circle.ended (λ M 𝓤. in-circle.clauses {M = M} {𝓤 = 𝓤})
 in_circle_held M 𝓤 𝓛 mem run κs a = by_facts 𝓤 (λ z z' w w' p q. (one p.0 q.0, refl))
 
 -- of arc seconds, and of clock seconds
-pub of_held : Held arc-of.ended (λ M. arc-of.clauses {M = M})
+pub of_held : Held arc-of.ended (λ M 𝓤. arc-of.clauses {M = M} {𝓤 = 𝓤})
 of_held M 𝓤 𝓛 mem run κs a = by_facts 𝓤 (λ z z' w w' p q. (ap (λ s. record { 0 = s }) (one p q), refl))
 
-pub seconds_held : Held arc-seconds.ended (λ M. arc-seconds.clauses {M = M})
+pub seconds_held : Held arc-seconds.ended (λ M 𝓤. arc-seconds.clauses {M = M} {𝓤 = 𝓤})
 seconds_held M 𝓤 𝓛 mem run κs a = by_facts 𝓤 (λ z z' w w' p q. (one p q, refl))
 
-pub clock_seconds_held : Held clock-seconds.ended (λ M. clock-seconds.clauses {M = M})
+pub clock_seconds_held : Held clock-seconds.ended (λ M 𝓤. clock-seconds.clauses {M = M} {𝓤 = 𝓤})
 clock_seconds_held M 𝓤 𝓛 mem run κs a = by_facts 𝓤 (λ z z' w w' p q. (one p q, refl))
 
-pub to_clock_held : Held to-clock.ended (λ M. to-clock.clauses {M = M})
+pub to_clock_held : Held to-clock.ended (λ M 𝓤. to-clock.clauses {M = M} {𝓤 = 𝓤})
 to_clock_held M 𝓤 𝓛 mem run κs a = by_facts 𝓤 (λ z z' w w' p q. (ap (λ s. record { 0 = s }) (one p q), refl))

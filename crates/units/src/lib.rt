@@ -1,6 +1,7 @@
 // What every call above shares: the refusals and their numbers, the answers, seconds of arc and of
 // clock, and the edges where a signed N or day becomes a count. No public function has a `requires`.
 #![tactic(auto)]
+
 mod answer;
 mod arithmetic;
 mod index;
