@@ -2,6 +2,7 @@
 // a whole table, one entry, or two entries of the sines with the step from each; past a table's end these are 0. No public function
 // has a `requires`.
 #![tactic(auto)]
+
 mod sines;
 mod tangents;
 
