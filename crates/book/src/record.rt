@@ -6,7 +6,7 @@ ghost use Rattle.book.specs.Said.{said_record, other_kind};
 use crate::bytes::{byte_at, two_at};
 use units::Refusal;
 
-#[derive(Drop)]
+#[derive(Clone, Copy)]
 pub enum RecordAnswer {
     Sound,
     Refused(Refusal),

@@ -8,7 +8,7 @@ use crate::year::{BookAnswer, Next, check_from, next_at};
 use units::{Number, Refusal};
 
 // Where the year's part starts and ends; or the book's refusal and its byte; or refusal 1 or 12.
-#[derive(Drop)]
+#[derive(Clone, Copy)]
 pub enum Sought {
     Found(usize, usize),
     Unsound(Refusal, usize),

@@ -8,7 +8,7 @@ use crate::record::{RecordAnswer, head_answer, record_size, term_answer};
 use units::Refusal;
 
 // Sound up to this byte; or the refusal, and the byte where the record at fault starts.
-#[derive(Drop)]
+#[derive(Clone, Copy)]
 pub enum BookAnswer {
     Sound(usize),
     Refused(Refusal, usize),
@@ -46,7 +46,7 @@ pub(crate) fn year_at(book: &[u8], at: usize, least: u64) -> BookAnswer
 }
 
 // The byte after the year, and the least N + 2,000 that may follow it; or the end; or the refusal and its byte.
-#[derive(Drop)]
+#[derive(Clone, Copy)]
 pub enum Next {
     Year(usize, u64),
     End,

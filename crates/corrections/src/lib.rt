@@ -11,14 +11,14 @@ use book::{BookAnswer, Sought};
 use units::Refusal;
 
 // One of the two lent books.
-#[derive(Drop)]
+#[derive(Clone, Copy)]
 pub enum Which {
     Corrections,
     Main,
 }
 
 // The book that has the year, and where its part starts and ends; or the book at fault, its refusal and the byte; or refusal 1 or 12.
-#[derive(Drop)]
+#[derive(Clone, Copy)]
 pub enum Corrected {
     Found(Which, usize, usize),
     Unsound(Which, Refusal, usize),
@@ -26,7 +26,7 @@ pub enum Corrected {
 }
 
 // The year's part of the book that it came from, empty where no year is handed out.
-#[derive(Drop)]
+#[derive(Clone, Copy)]
 pub struct CorrectedYear<'a> {
     pub part: &'a [u8],
     pub what: Corrected,

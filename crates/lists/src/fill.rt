@@ -7,7 +7,7 @@ use crate::records::{Records, store_records};
 use sun::{Listed, TermRecord, ZERO_RECORD};
 
 // What is answered, and the records to be stored: none on a refusal.
-#[derive(Drop)]
+#[derive(Clone, Copy)]
 struct Filling {
     answer: Listed,
     records: Records,

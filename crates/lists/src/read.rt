@@ -9,7 +9,7 @@ use units::Refusal;
 use values::Head;
 
 // The byte after the year; or the book's refusal, and the byte where the record at fault starts; or refusal 6.
-#[derive(Drop)]
+#[derive(Clone, Copy)]
 pub enum ReadAnswer {
     Sound(usize),
     Unsound(Refusal, usize),
@@ -17,14 +17,14 @@ pub enum ReadAnswer {
 }
 
 // The answer, and the head: 0 on a refusal.
-#[derive(Drop)]
+#[derive(Clone, Copy)]
 pub struct ReadYear {
     pub answer: ReadAnswer,
     pub head: Head,
 }
 
 // The same, and the records to be stored: none on a refusal.
-#[derive(Drop)]
+#[derive(Clone, Copy)]
 struct Reading {
     year: ReadYear,
     records: Records,

@@ -6,7 +6,7 @@ ghost use Rattle.lists.specs.Records.{record_at, with_record, stored_in, fitting
 use sun::{TermRecord, ZERO_RECORD};
 
 // The first `count` of these are meant.
-#[derive(Drop)]
+#[derive(Clone, Copy)]
 pub struct Records {
     pub count: usize,
     pub at: [TermRecord; 24],

@@ -17,5 +17,5 @@ local_back : (r : LocalAnswer) → local_from (said_local r) ≡ r
 local_back (Is v) = refl
 local_back (Refused r) = ap Refused (refusal_back r)
 
-pub local_time_held : Held local-time.ended (λ M. local-time.clauses {M = M})
+pub local_time_held : Held local-time.ended (λ M 𝓤. local-time.clauses {M = M} {𝓤 = 𝓤})
 local_time_held M 𝓤 𝓛 mem run κs a = by_facts 𝓤 (λ z z' w w' p q. (one_said said_local local_from local_back p q, refl))

@@ -8,13 +8,13 @@ ghost use Rattle.local.specs.Said.{said_local};
 
 use units::{ArcSeconds, ClockSeconds, Number, Refusal};
 
-#[derive(Drop)]
+#[derive(Clone, Copy)]
 pub struct Moment {
     pub day: i64,
     pub minute: u64,
 }
 
-#[derive(Drop)]
+#[derive(Clone, Copy)]
 pub enum LocalAnswer {
     Is(Moment),
     Refused(Refusal),

@@ -26,7 +26,7 @@ fn put_text(out: &mut [u8], at: usize, text: Text) -> usize
 }
 
 // The line that has not ended yet, how many bytes of the buffer are written, and how many of the block are taken.
-#[derive(Drop)]
+#[derive(Clone, Copy)]
 pub struct Fed {
     pub line: Line,
     pub written: usize,
@@ -34,7 +34,7 @@ pub struct Fed {
 }
 
 // The line after a byte, and how many bytes of the buffer are written.
-#[derive(Drop)]
+#[derive(Clone, Copy)]
 struct Stepped {
     line: Line,
     at: usize,

@@ -6,7 +6,7 @@ use crate::line::{Line, line_end, line_step};
 use units::{Refusal, Signed};
 
 // What the line asks; or the line so far, which the next block may go on with.
-#[derive(Drop)]
+#[derive(Clone, Copy)]
 pub enum First {
     Asked(Signed),
     Open(Line),

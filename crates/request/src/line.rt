@@ -7,7 +7,7 @@ ghost use Rattle.request.specs.Reading.{digit_step, line_step, line_end};
 use units::{Refusal, Signed};
 
 // A line so far: no byte; a minus or none, how many digits, and their number; or no year.
-#[derive(Drop)]
+#[derive(Clone, Copy)]
 pub enum Line {
     Empty,
     Digits { minus: bool, count: u64, size: u64 },

@@ -11,7 +11,7 @@ use sun::{Year, YearAnswer};
 use units::{Refusal, Signed};
 
 // Some bytes of text: the first n of the array.
-#[derive(Drop)]
+#[derive(Clone, Copy)]
 pub struct Text {
     pub n: usize,
     pub bytes: [u8; 32],

@@ -77,7 +77,7 @@ pub(crate) fn lifted_place(
 }
 
 // A year and a day, each counted from the least allowed on.
-#[derive(Drop)]
+#[derive(Clone, Copy)]
 enum Midnight {
     Is(u64, u64),
     Refused(Refusal),

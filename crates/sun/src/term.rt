@@ -16,7 +16,7 @@ use units::{Number, Refusal};
 // A term's mark is at 15 degrees times its number.
 const FIFTEEN_DEGREES: u64 = 15 * 60 * MINUTE;
 
-#[derive(Drop)]
+#[derive(Clone, Copy)]
 pub struct TermRecord {
     pub day: i64,
     pub minute: u64,
@@ -30,20 +30,20 @@ pub const ZERO_RECORD: TermRecord = TermRecord {
     count: 0,
 };
 
-#[derive(Drop)]
+#[derive(Clone, Copy)]
 pub enum TermAnswer {
     Is(TermRecord),
     Refused(Refusal),
 }
 
 // The day whose midnight is the last not past the mark, and the minute cut off. The print may be one day later.
-#[derive(Drop)]
+#[derive(Clone, Copy)]
 pub struct Crossing {
     pub day: i64,
     pub minute: u64,
 }
 
-#[derive(Drop)]
+#[derive(Clone, Copy)]
 pub enum CrossingAnswer {
     Is(Crossing),
     Refused(Refusal),
@@ -51,7 +51,7 @@ pub enum CrossingAnswer {
 
 // The index of the day before the first midnight past the mark; what is gone from its midnight to the mark, and the step to the next
 // midnight, in units; the count.
-#[derive(Drop)]
+#[derive(Clone, Copy)]
 enum Walked {
     At(u64, u64, u64, u64),
     Refused(Refusal),

@@ -8,14 +8,14 @@ use crate::term::{TermAnswer, TermRecord, ZERO_RECORD, term_in};
 use crate::year::{Year, year_in};
 use units::{Number, Refusal};
 
-#[derive(Drop)]
+#[derive(Clone, Copy)]
 pub enum Listed {
     All,
     Refused(Refusal),
 }
 
 // On a refusal the year's values and the terms are 0.
-#[derive(Drop)]
+#[derive(Clone, Copy)]
 pub struct WorkedYear {
     pub answer: Listed,
     pub year: Year,

@@ -7,7 +7,7 @@ ghost use Rattle.sun.specs.Said.{values_of_year, said_year};
 use crate::constants::{DAILY, DAY, DAY_EPOCH, YEAR};
 use units::{Number, Refusal};
 
-#[derive(Drop)]
+#[derive(Clone, Copy)]
 pub struct Year {
     pub day_name: u64,
     pub fraction: u64,
@@ -15,7 +15,7 @@ pub struct Year {
     pub root: u64,
 }
 
-#[derive(Drop)]
+#[derive(Clone, Copy)]
 pub enum YearAnswer {
     Is(Year),
     Refused(Refusal),

@@ -16,13 +16,13 @@ use sines::SINE_STEPS;
 use tangents::TANGENTS;
 
 // An entry of the sine table and the step from it to the next, 0 where there is no next.
-#[derive(Drop)]
+#[derive(Clone, Copy)]
 pub struct EntryAndStep {
     pub entry: u64,
     pub step: u64,
 }
 
-#[derive(Drop)]
+#[derive(Clone, Copy)]
 pub struct TwoEntries {
     pub first: EntryAndStep,
     pub second: EntryAndStep,

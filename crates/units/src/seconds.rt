@@ -5,10 +5,10 @@ ghost use Rattle.law.specs.Document.{clock_of_arc};
 
 use crate::arithmetic::{half_up, size};
 
-#[derive(Drop)]
+#[derive(Clone, Copy)]
 pub struct ArcSeconds(i64);
 
-#[derive(Drop)]
+#[derive(Clone, Copy)]
 pub struct ClockSeconds(i64);
 
 impl ArcSeconds {

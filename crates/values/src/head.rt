@@ -1,7 +1,7 @@
 // A year's head by value.
 
 // N, day name and mansion.
-#[derive(Drop)]
+#[derive(Clone, Copy)]
 pub struct Head {
     pub n: i64,
     pub day_name: u64,

@@ -12,7 +12,7 @@ use sun::{TermRecord, ZERO_RECORD};
 use units::Refusal;
 
 // The byte after the year, its head and its terms, each count 0; or the refusal and its byte, and all of these are 0.
-#[derive(Drop)]
+#[derive(Clone, Copy)]
 pub struct ReadValues {
     pub answer: BookAnswer,
     pub head: Head,

@@ -11,7 +11,7 @@ use crate::head::Head;
 use sun::TermRecord;
 use units::{Number, Refusal};
 
-#[derive(Drop)]
+#[derive(Clone, Copy)]
 pub enum Written {
     Done,
     Refused(Refusal),

@@ -13,7 +13,7 @@ use sun::TermRecord;
 use units::Refusal;
 
 // Ours; or the byte where the first record starts that isn't; or the book's refusal, and the byte where the record at fault starts.
-#[derive(Drop)]
+#[derive(Clone, Copy)]
 pub enum Verdict {
     Ours,
     NotOurs(usize),
