@@ -2,6 +2,7 @@
 // Inside, time is in clock seconds from the midnight of day -5 on, the first day that a place can reach:
 // so none is below 0. No public function has a `requires`.
 #![tactic(auto)]
+
 ghost use Rattle.std.specs.Prelude.{◌≡◌, ◌+◌, ◌*◌, ◌/◌, ◌≤◌, pos, nat_abs, ◌+ℤ◌, ◌-ℤ◌};
 ghost use Rattle.law.specs.Document.{local_answer};
 ghost use Rattle.local.specs.Said.{said_local};
