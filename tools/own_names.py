@@ -133,7 +133,7 @@ def antt(path, to):
 
 def rt(path, to):
     """Rust's own names are in snake case already, and a dash there is a minus: only names in camel case turn, and imports."""
-    camel = {old: new for old, new in to.items() if "-" not in old}
+    camel = {old: new for old, new in to.items() if re.search("[a-z][A-Z]", old)}
     out = []
     lines = lines_of(path)
     skip = foreign(lines)

@@ -159,7 +159,7 @@ fn printed(walked: Walked) -> TermAnswer
 }
 
 // As document 01 has it: the minute cut off.
-fn cut_off_lem(walked: Walked) -> CrossingAnswer
+fn cut_off(walked: Walked) -> CrossingAnswer
     requires { WalkedWithin walked }
     ensures { said_crossing result ≡ part crossing_of (said_walked walked) }
 {
@@ -196,5 +196,5 @@ pub fn term_of(n: i64, k: u64) -> TermAnswer
 pub fn crossing_of(n: i64, k: u64) -> CrossingAnswer
     ensures { said_crossing result ≡ crossing_answer epicycles n k }
 {
-    cut_off_lem(find_at(n, k))
+    cut_off(find_at(n, k))
 }

@@ -20,7 +20,7 @@ returns : tie.Need-returns
 returns c =
     let start = c.before.before in
     let found = c.before.find_at.ensures.0 ∙ ap (λ n. find_answer epicycles n start.args.k) (to_z-of_z start.ranges.n) in
-    c.cut_off_lem.ensures ∙ (ap (part crossing_of) found ∙ crossing_answered epicycles (omega arith) start.args.n start.args.k)
+    c.cut_off.ensures ∙ (ap (part crossing_of) found ∙ crossing_answered epicycles (omega arith) start.args.n start.args.k)
 
 pub crossing_of_spec : {M : Type 1} → statement M
 crossing_of_spec = tie.close (tie.spec find_at_requires cut_off_requires returns)
