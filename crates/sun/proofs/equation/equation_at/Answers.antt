@@ -1,0 +1,31 @@
+-- The size at the anomaly, signed by its side; a refusal is passed on. Assumes nothing.
+use Rattle.std.proofs.Common.{◌≡◌, ap, ◌∙◌, arith, w64}
+use mir.Facts.{to_z-of_z, to_z_pos}
+use Rattle.reasoning.specs.Answer.{value}
+use Rattle.law.specs.Document.{epicycles, in_circle}
+use Rattle.units.specs.Said.{number_of}
+use Rattle.units.proofs.Machine.{negated}
+use Rattle.sun.proofs.equation.Equations.{equation_added, equation_taken, equation_refused}
+use Rattle.sun.proofs.equation.equation_at.Goals as goal
+
+pub returns-then-a-lt-HALF : goal.returns-then-a-lt-HALF
+returns-then-a-lt-HALF c =
+    let a = c.in_circle-a.result in
+    let brought : a ≡ in_circle c.args.anomaly = c.in_circle-a.ensures.0 ∙ ap in_circle (to_z-of_z c.ranges.anomaly) in
+    let said = c.in-Is.ensures in
+    ap value (to_z_pos w64 (omega (arith, said.1)))
+    ∙ equation_added epicycles a c.args.anomaly brought c.in-Is.size said.0 c.if-a-lt-HALF.true
+
+pub returns-else-a-lt-HALF : goal.returns-else-a-lt-HALF
+returns-else-a-lt-HALF c =
+    let a = c.in_circle-a.result in
+    let brought : a ≡ in_circle c.args.anomaly = c.in_circle-a.ensures.0 ∙ ap in_circle (to_z-of_z c.ranges.anomaly) in
+    let said = c.in-Is.ensures in
+    ap value (negated w64 c.in-Is.size (omega (arith, said.1))).is
+    ∙ equation_taken epicycles a c.args.anomaly brought c.in-Is.size said.0 c.if-a-lt-HALF.false
+
+pub returns-in-Refused : goal.returns-in-Refused
+returns-in-Refused c =
+    let a = c.in_circle-a.result in
+    let brought : a ≡ in_circle c.args.anomaly = c.in_circle-a.ensures.0 ∙ ap in_circle (to_z-of_z c.ranges.anomaly) in
+    equation_refused epicycles a c.args.anomaly brought (number_of c.in-Refused.refusal) c.in-Refused.ensures.0

@@ -1,0 +1,13 @@
+-- The angle is that of the tangent at the mirrored anomaly. Assumes nothing.
+use Rattle.std.proofs.Common.{ap, ◌∙◌}
+use Rattle.law.specs.Document.{epicycles}
+use Rattle.motion.specs.Working.{tangent_of}
+use Rattle.motion.proofs.Bridge.{size_from}
+use Rattle.sun.proofs.equation.size_at.Goals as goal
+
+pub returns : goal.returns
+returns c = (
+  c.angle_of.ensures.0
+      ∙ size_from epicycles c.args.a c.tangent.result (c.tangent.ensures ∙ ap (tangent_of epicycles) c.mirrored.ensures.0),
+  c.angle_of.ensures.1,
+)
