@@ -67,25 +67,25 @@ records_back (x ∷ xs) = ap (λ (r : List TermRecord). x ∷ r) (records_back x
 
 -- ---- the functions
 
-pub year_of_held : Held year-of.ended (λ M. year-of.clauses {M = M})
+pub year_of_held : Held year-of.ended (λ M 𝓤. year-of.clauses {M = M} {𝓤 = 𝓤})
 year_of_held M 𝓤 𝓛 mem run κs a = by_facts 𝓤 (λ z z' w w' p q. (one_said said_year year_back year_back_lem p q, refl))
 
-pub equation_at_held : Held equation-at.ended (λ M. equation-at.clauses {M = M})
+pub equation_at_held : Held equation-at.ended (λ M 𝓤. equation-at.clauses {M = M} {𝓤 = 𝓤})
 equation_at_held M 𝓤 𝓛 mem run κs a = by_facts 𝓤 (λ z z' w w' p q. (one_said said_signed signed_back signed_back_lem p q, refl))
 
-pub mean_place_held : Held mean-place.ended (λ M. mean-place.clauses {M = M})
+pub mean_place_held : Held mean-place.ended (λ M 𝓤. mean-place.clauses {M = M} {𝓤 = 𝓤})
 mean_place_held M 𝓤 𝓛 mem run κs a = by_facts 𝓤 (λ z z' w w' p q. (one_said said_number number_back number_back_lem p q, refl))
 
-pub true_place_held : Held true-place.ended (λ M. true-place.clauses {M = M})
+pub true_place_held : Held true-place.ended (λ M 𝓤. true-place.clauses {M = M} {𝓤 = 𝓤})
 true_place_held M 𝓤 𝓛 mem run κs a = by_facts 𝓤 (λ z z' w w' p q. (one_said said_number number_back number_back_lem p q, refl))
 
-pub run_on_place_held : Held run-on-place.ended (λ M. run-on-place.clauses {M = M})
+pub run_on_place_held : Held run-on-place.ended (λ M 𝓤. run-on-place.clauses {M = M} {𝓤 = 𝓤})
 run_on_place_held M 𝓤 𝓛 mem run κs a = by_facts 𝓤 (λ z z' w w' p q. (one_said said_signed signed_back signed_back_lem p q, refl))
 
-pub term_of_held : Held term_of.ended (λ M. term_of.clauses {M = M})
+pub term_of_held : Held term_of.ended (λ M 𝓤. term_of.clauses {M = M} {𝓤 = 𝓤})
 term_of_held M 𝓤 𝓛 mem run κs a = by_facts 𝓤 (λ z z' w w' p q. (one_said said_term term_from term_back p q, refl))
 
-pub crossing_of_held : Held crossing-of.ended (λ M. crossing-of.clauses {M = M})
+pub crossing_of_held : Held crossing-of.ended (λ M 𝓤. crossing-of.clauses {M = M} {𝓤 = 𝓤})
 crossing_of_held M 𝓤 𝓛 mem run κs a = by_facts 𝓤 (λ z z' w w' p q. (one_said said_crossing crossing_from crossing_back p q, refl))
 
 -- a lent list afterwards, as its records are read
@@ -108,5 +108,5 @@ one_year z z' p q =
     let made : Listed → Year → List TermRecord → WorkedYear = λ a y l. record { answer = a; year = y; terms = l } in
     ap₂ (λ (a : Listed) (y : Year). made a y z.terms) answers years ∙ ap (made z'.answer z'.year) (one_records p.terms q.terms)
 
-pub work_year_held : Held work-year.ended (λ M. work-year.clauses {M = M})
+pub work_year_held : Held work-year.ended (λ M 𝓤. work-year.clauses {M = M} {𝓤 = 𝓤})
 work_year_held M 𝓤 𝓛 mem run κs a = by_facts 𝓤 (λ z z' w w' p q. (one_year z z' p q, refl))

@@ -1,6 +1,7 @@
 // The bureau's sun: a year's mean solstice, the equation of centre, the mean and true place at
 // midnight, and the days and minutes of the 24 terms. Inside, a year is y = N + 2,000 and a day j = d + 4. No public function has a `requires`.
 #![tactic(auto)]
+
 mod constants;
 mod equation;
 mod place;

@@ -1,6 +1,5 @@
 -- The lifted anomaly, brought into the circle, is the definition's. Assumes nothing.
-use Rattle.std.proofs.Common.{◌≤◌, refl, arith}
-use Rattle.law.specs.Document.{daily_motion}
+use Rattle.std.proofs.Common.{refl, arith}
 use Rattle.motion.specs.Working.{anomaly_of}
 use Rattle.motion.proofs.Root.{root_of_le}
 use Rattle.sun.proofs.place.anomaly.Goals as goal
