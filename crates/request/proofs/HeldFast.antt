@@ -52,20 +52,20 @@ first_back (Open line) = refl
 
 -- ---- the functions
 
-pub line_step_held : Held line_step.ended (λ M. line_step.clauses {M = M})
+pub line_step_held : Held line_step.ended (λ M 𝓤. line_step.clauses {M = M} {𝓤 = 𝓤})
 line_step_held M 𝓤 𝓛 mem run κs a = by_facts 𝓤 (λ z z' w w' p q. (one p q, refl))
 
-pub line_end_held : Held line-end.ended (λ M. line-end.clauses {M = M})
+pub line_end_held : Held line-end.ended (λ M 𝓤. line-end.clauses {M = M} {𝓤 = 𝓤})
 line_end_held M 𝓤 𝓛 mem run κs a = by_facts 𝓤 (λ z z' w w' p q. (one_said said_signed signed_back signed_back_lem p q, refl))
 
-pub asked_by_held : Held asked_by.ended (λ M. asked_by.clauses {M = M})
+pub asked_by_held : Held asked_by.ended (λ M 𝓤. asked_by.clauses {M = M} {𝓤 = 𝓤})
 asked_by_held M 𝓤 𝓛 mem run κs a = by_facts 𝓤 (λ z z' w w' p q. (one_said said_signed signed_back signed_back_lem p q, refl))
 
-pub first_line_held : Held first-line.ended (λ M. first-line.clauses {M = M})
+pub first_line_held : Held first-line.ended (λ M 𝓤. first-line.clauses {M = M} {𝓤 = 𝓤})
 first_line_held M 𝓤 𝓛 mem run κs a = by_facts 𝓤 (λ z z' w w' p q. (one_said said_first first_from first_back p q, refl))
 
-pub feed_held : Held feed.ended (λ M. feed.clauses {M = M})
+pub feed_held : Held feed.ended (λ M 𝓤. feed.clauses {M = M} {𝓤 = 𝓤})
 feed_held M 𝓤 𝓛 mem run κs a = by_facts 𝓤 (λ z z' w w' p q. let e = one_fed p q in (e.0, pair≡ refl (pair≡ refl (pair≡ e.1 refl))))
 
-pub finish_held : Held finish.ended (λ M. finish.clauses {M = M})
+pub finish_held : Held finish.ended (λ M 𝓤. finish.clauses {M = M} {𝓤 = 𝓤})
 finish_held M 𝓤 𝓛 mem run κs a = by_facts 𝓤 (λ z z' w w' p q. let e = one_end p q in (e.0, pair≡ refl (pair≡ e.1 refl)))

@@ -8,9 +8,6 @@ use native.Mathlib.Omega.{arith}
 use lib.ListN.{length, take, drop, get_or, set}
 use lib.Seq.{take-suc-set, take-suc, drop-drop, drop-set-lt}
 
-pub none_copied : (out bytes : List ℕ) (at : ℕ) → take (at + 0) out ≡ take at out ++ take 0 bytes
-none_copied out bytes at = ap (λ (m : ℕ). take m out) (add-zero at) ∙ sym (append-nil (take at out))
-
 pub one_copied : (out₀ out bytes : List ℕ) (at i : ℕ) → i < length bytes → at + i < length out → take (at + i) out ≡ take at out₀ ++ take i bytes
     → take (at + (i + 1)) (set out (at + i) (get_or bytes i 0)) ≡ take at out₀ ++ take (i + 1) bytes
 one_copied out₀ out bytes at i h g e =

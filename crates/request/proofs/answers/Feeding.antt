@@ -17,9 +17,6 @@ pub record Feeding (line : Line) (block out₀ out : List ℕ) (so_far : Line) (
   pub most : at ≤ 32 * i
   pub rest : drop at out ≡ drop at out₀
 
-pub none_fed : (line : Line) (block out : List ℕ) → Feeding line block out out line 0 0
-none_fed line block out = record { state = refl; text = refl; most = omega arith; rest = refl }
-
 state_one : (line : Line) (block : List ℕ) (i : ℕ) → i < length block
     → state_after line (drop i block) ≡ state_after (next_line line (get_or block i 0)) (drop (i + 1) block)
 unfolding state_after
