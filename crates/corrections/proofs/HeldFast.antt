@@ -33,6 +33,6 @@ corrected_back (corrected-answer.Found which start end) = ap (λ w. corrected-an
 corrected_back (corrected-answer.Unsound which r byte) = ap₂ (λ w f. corrected-answer.Unsound w f byte) (which_back which) (refusal_back r)
 corrected_back (corrected-answer.Refused r) = ap corrected-answer.Refused (refusal_back r)
 
-pub corrected_year_held : Seen corrected-year.ended (λ κs. CorrectedAnswer × (List ℕ × (ℕ × ℕ))) (λ κs r. (r.what, (r.part.now, r.part.ref_ptr))) (λ M. corrected-year.clauses {M = M})
+pub corrected_year_held : Seen corrected-year.ended (λ κs. CorrectedAnswer × (List ℕ × (ℕ × ℕ))) (λ κs r. (r.what, (r.part.now, r.part.ref_ptr))) (λ M 𝓤. corrected-year.clauses {M = M} {𝓤 = 𝓤})
 corrected_year_held M 𝓤 𝓛 mem run κs a =
     by_facts 𝓤 (λ z z' w w' p q. (pair≡ (one_said said_corrected corrected_from corrected_back p.answer q.answer) (one_part p.part q.part), refl))

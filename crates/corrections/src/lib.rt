@@ -1,6 +1,7 @@
 // A sheet of corrections beside the main book: a year is handed out from the corrections if it is there, else from the main book, as
 // that part of the book. Both books are checked whole, corrections first, and each is gone over once. The call has no `requires`.
 #![tactic(auto)]
+
 ghost use Rattle.std.specs.Prelude.{◌≡◌};
 ghost use Rattle.law.specs.Book.{seek_of};
 ghost use Rattle.corrections.specs.Corrections.{the_main, said_of, corrected_of};
