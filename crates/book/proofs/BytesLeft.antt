@@ -1,9 +1,9 @@
--- What is left of a book from a byte on, what stands first in it, and what past its end. Assumes nothing.
-use mathlib.Core.List.{List, [], ◌∷◌}
-use mathlib.Core.Path.{◌≡◌, refl, ◌∙◌, ap}
-use Prim.Native.Nat.{ℕ, zero, suc, ◌+◌, ◌≤◌}
-use native.Mathlib.Nat.{add-zero, add_assoc, not-suc-le-zero, le_of_suc-le-suc}
-use lib.ListN.{length, get_or, drop}
+-- What is left of a book from a byte on, and what stands first in it. Assumes nothing.
+use mathlib.Core.List.{List}
+use mathlib.Core.Path.{◌≡◌, ◌∙◌, ap}
+use Prim.Native.Nat.{ℕ, ◌+◌}
+use native.Mathlib.Nat.{add-zero, add_assoc}
+use lib.ListN.{get_or, drop}
 use lib.Seq.{get_or-drop}
 use Rattle.law.specs.Book.{two_at}
 
@@ -12,8 +12,3 @@ first s a = get_or-drop a s 0 0 ∙ ap (λ (i : ℕ). get_or s i 0) (add-zero a)
 
 pub two_drop : (s : List ℕ) (a i : ℕ) → two_at (drop a s) i ≡ two_at s (a + i)
 two_drop s a i = simp (get_or-drop, add_assoc)
-
-pub past : (s : List ℕ) (i : ℕ) → length s ≤ i → get_or s i 0 ≡ 0
-past [] i h = refl
-past (x ∷ s) zero h = absurd (not-suc-le-zero h)
-past (x ∷ s) (suc i) h = past s i (le_of_suc-le-suc h)

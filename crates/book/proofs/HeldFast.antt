@@ -56,35 +56,35 @@ sought_back (sought-answer.Refused r) = ap sought-answer.Refused (refusal_back r
 
 -- ---- the functions
 
-pub byte_at_held : Held byte_at.ended (λ M. byte_at.clauses {M = M})
+pub byte_at_held : Held byte_at.ended (λ M 𝓤. byte_at.clauses {M = M} {𝓤 = 𝓤})
 byte_at_held M 𝓤 𝓛 mem run κs a = by_facts 𝓤 (λ z z' w w' p q. (one p.0 q.0, refl))
 
-pub two_at_held : Held two_at.ended (λ M. two_at.clauses {M = M})
+pub two_at_held : Held two_at.ended (λ M 𝓤. two_at.clauses {M = M} {𝓤 = 𝓤})
 two_at_held M 𝓤 𝓛 mem run κs a = by_facts 𝓤 (λ z z' w w' p q. (one p.0 q.0, refl))
 
-pub next_at_held : Held next-at.ended (λ M. next-at.clauses {M = M})
+pub next_at_held : Held next-at.ended (λ M 𝓤. next-at.clauses {M = M} {𝓤 = 𝓤})
 next_at_held M 𝓤 𝓛 mem run κs a = by_facts 𝓤 (λ z z' w w' p q. (one_said said_next next_from next_back p q, refl))
 
-pub check_book_held : Held check-book.ended (λ M. check-book.clauses {M = M})
+pub check_book_held : Held check-book.ended (λ M 𝓤. check-book.clauses {M = M} {𝓤 = 𝓤})
 check_book_held M 𝓤 𝓛 mem run κs a = by_facts 𝓤 (λ z z' w w' p q. (one_said said_checked checked_from checked_back p q, refl))
 
-pub seek_year_held : Held seek-year.ended (λ M. seek-year.clauses {M = M})
+pub seek_year_held : Held seek-year.ended (λ M 𝓤. seek-year.clauses {M = M} {𝓤 = 𝓤})
 seek_year_held M 𝓤 𝓛 mem run κs a = by_facts 𝓤 (λ z z' w w' p q. (one_said said_sought sought_from sought_back p q, refl))
 
 pub one_part : {lent : Bor (List ℕ)} {b : List ℕ} {start : ℕ} {r r' : Bor (List ℕ)} → PartIs lent b start r → PartIs lent b start r' → ◌≡◌ {A = List ℕ × (ℕ × ℕ)} (r.now, r.ref_ptr) (r'.now, r'.ref_ptr)
 one_part p q = pair≡ (one p.bytes q.bytes) (one p.place q.place)
 
 -- a part of the lent book is seen as its bytes and their place
-pub year_part_held : Seen year-part.ended (λ κs. List ℕ × (ℕ × ℕ)) (λ κs r. (r.now, r.ref_ptr)) (λ M. year-part.clauses {M = M})
+pub year_part_held : Seen year-part.ended (λ κs. List ℕ × (ℕ × ℕ)) (λ κs r. (r.now, r.ref_ptr)) (λ M 𝓤. year-part.clauses {M = M} {𝓤 = 𝓤})
 year_part_held M 𝓤 𝓛 mem run κs a = by_facts 𝓤 (λ z z' w w' p q. (one_part p q, refl))
 
 -- ---- the reader
 
 -- the reader itself, on the same lent slice
-pub open_held : Held reader-open.ended (λ M. reader-open.clauses {M = M})
+pub open_held : Held reader-open.ended (λ M 𝓤. reader-open.clauses {M = M} {𝓤 = 𝓤})
 open_held M 𝓤 𝓛 mem run κs a = by_facts 𝓤 (λ z z' w w' p q. (one p q, refl))
 
 -- what is found, the part's bytes and their place; and the reader afterwards
-pub next_held : Seen reader-next.ended (λ κs. NextAnswer × (List ℕ × (ℕ × ℕ))) (λ κs h. (h.what, (h.part.now, h.part.ref_ptr))) (λ M. reader-next.clauses {M = M})
+pub next_held : Seen reader-next.ended (λ κs. NextAnswer × (List ℕ × (ℕ × ℕ))) (λ κs h. (h.what, (h.part.now, h.part.ref_ptr))) (λ M 𝓤. reader-next.clauses {M = M} {𝓤 = 𝓤})
 next_held M 𝓤 𝓛 mem run κs a =
     by_facts 𝓤 (λ z z' w w' p q. (pair≡ (one_said said_next next_from next_back p.found q.found) (one_part p.part q.part), pair≡ (one p.reader q.reader) refl))

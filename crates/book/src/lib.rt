@@ -1,6 +1,7 @@
 // The term book as bytes: reading it year by year, checking it, seeking a year. Inside, N is counted from -2,000 and a day from -4,
 // as the book does. No public function has a `requires`.
 #![tactic(auto)]
+
 mod bytes;
 mod reader;
 mod record;
