@@ -19,5 +19,5 @@ verdict_back verdict-answer.Ours = refl
 verdict_back (verdict-answer.NotOurs byte) = refl
 verdict_back (verdict-answer.Refused r byte) = ap (λ f. verdict-answer.Refused f byte) (refusal_back r)
 
-pub verify_book_held : Held verify-book.ended (λ M. verify-book.clauses {M = M})
+pub verify_book_held : Held verify-book.ended (λ M 𝓤. verify-book.clauses {M = M} {𝓤 = 𝓤})
 verify_book_held M 𝓤 𝓛 mem run κs a = by_facts 𝓤 (λ z z' w w' p q. (one_said said_verdict verdict_from verdict_back p q, refl))

@@ -1,6 +1,7 @@
 // A partner's book: is each of its years what the bureau reckoned, and if not, where is the first record that isn't. The book is checked
 // whole, and then gone over once more; each year is reckoned once. The call has no `requires`.
 #![tactic(auto)]
+
 ghost use Rattle.std.specs.Prelude.{false, ◌≡◌, ◌+◌, ◌≤◌, ◌^◌, get_or, drop};
 ghost use Rattle.law.specs.Document.{epicycles, bad_day};
 ghost use Rattle.law.specs.Book.{two_at};
