@@ -6,7 +6,7 @@ use Rattle.request.proofs.answers.feed_block.Given as goal
 abbrev pub invariant-loop-i : goal.invariant-loop-i
 invariant-loop-i l = record {
   within : l.i ≤ length l.block;
-  fed : Feeding l.fn.line l.block l.initial.out l.out l.so_far l.at l.i
+  fed : Feeding l.fn.line l.block l.initial.out l.out l.so_far l.at l.i;
 }
 
 abbrev pub decreases-loop-i : goal.decreases-loop-i
