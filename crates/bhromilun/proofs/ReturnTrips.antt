@@ -11,7 +11,7 @@ use Rattle.law.specs.Document.{TermValues}
 use Rattle.law.specs.Book.{Checked, sound, HeadValues, year_from, terms_in, values_in, head_read, terms_read, write_answer}
 use Rattle.reasoning.specs.InOrder.{in_order}
 use Rattle.reasoning.proofs.InOrder.{in_order_length, in_order_same, filled_all}
-use Rattle.values.proofs.ReadValues.{terms_many, read_as}
+use Rattle.values.proofs.ReadForRoom.{terms_many, read_as}
 use Rattle.values.proofs.WrittenIsRead.{uncounted}
 use Rattle.values.proofs.ReadIsWritten.{Bytes}
 use Rattle.values.proofs.ReturnTrips as by_value

@@ -15,13 +15,13 @@ use Rattle.sun.specs.declared.term.TermRecord.{TermRecord}
 use Rattle.sun.specs.Said.{values_of_term}
 use Rattle.values.specs.declared.head.Head.{Head}
 use Rattle.lists.specs.declared.read.ReadYear.{ReadYear}
-use Rattle.lists.specs.declared.read.ReadAnswer.TheVariants as read_answer
+use Rattle.lists.specs.declared.read.ReadAnswer.TheVariants as read-answer
 use Rattle.values.specs.declared.write.Written.{Written}
 use Rattle.values.specs.declared.write.Written.TheVariants as written
 use Rattle.values.specs.Said.{said_written, given_year}
 use Rattle.values.specs.Told.{Told}
 use Rattle.lists.specs.Read.{said_read_answer, ListRead}
-use Rattle.values.proofs.ReadValues.{terms_many}
+use Rattle.values.proofs.ReadForRoom.{terms_many}
 use Rattle.values.proofs.ReadIsWritten.{Bytes}
 use Rattle.values.proofs.WrittenIsRead.{uncounted}
 use Rattle.values.proofs.ReturnTrips.{written_is_read, read_is_written}
@@ -45,7 +45,7 @@ done_is {w = written.Done} e = refl
 done_is {w = written.Refused r} e = absurd (let z : ◌≡◌ {A = ℕ} 0 1 = cc in omega arith)
 
 -- the bytes s were read into a list, which then holds list'
-module _ (s : List ℕ) (are : Bytes s) (list list' : List TermRecord) (r : ReadYear) (e : ℕ) (read : ListRead s list list' r) (is : r.answer ≡ read_answer.Sound e) where
+module _ (s : List ℕ) (are : Bytes s) (list list' : List TermRecord) (r : ReadYear) (e : ℕ) (read : ListRead s list list' r) (is : r.answer ≡ read-answer.Sound e) where
   answered : read_answer s (length list) ≡ value (sound e)
   answered = sym read.year.says ∙ ap said_read_answer is
 
@@ -79,7 +79,7 @@ done_value (refused n) b b' e q = absurd (let z : ◌≡◌ {A = ℕ} 0 1 = cc i
 
 -- the buffer b' read into a list says the head again, and leaves the terms there, each count 0
 pub record ReadAgain (head : Head) (list before after : List TermRecord) (r : ReadYear) : Type 0 where
-  pub says : r.answer ≡ read_answer.Sound 149
+  pub says : r.answer ≡ read-answer.Sound 149
   pub same : r.head ≡ head
   pub terms : map values_of_term after ≡ map uncounted (map values_of_term (take 24 list)) ++ drop 24 (map values_of_term before)
 

@@ -1,4 +1,3 @@
 pub mod ListFilled
-pub mod LentList
 pub mod HeldFast
 pub mod CallsCompose

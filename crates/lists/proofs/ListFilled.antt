@@ -1,7 +1,7 @@
 -- What a list holds once the records for an answer are stored in it. Assumes nothing.
 use mathlib.Core.List.{List, [], ◌∷◌, map, map-append}
 use mathlib.Core.Path.{◌≡◌, refl, sym, ◌∙◌, ap}
-use Prim.Native.Nat.{ℕ, zero, suc, ◌*◌, ◌^◌, ◌≤◌, ◌<◌}
+use Prim.Native.Nat.{ℕ, zero, suc, ◌≤◌}
 use native.Mathlib.Omega.{arith}
 use borrow.Author.Tests.{le-ltb}
 use lib.ListN.{length, take, drop, length-map}
@@ -50,7 +50,3 @@ kept_all (value terms) l f e q =
     let long : length l ≡ 24 = sym (length-map l values_of_term) ∙ (ap length q ∙ f) in
     (refl, ap (map values_of_term) (take_all 24 l (omega (arith, long))) ∙ q)
 kept_all (refused n) l f e q = absurd (let z : ◌≡◌ {A = ℕ} 0 1 = cc in omega arith)
-
--- a record is 24 bytes long, and its place in a list fits an offset
-pub place_fits : (n k : ℕ) → n * 24 < 2 ^ 63 → k < n → k * 24 < 2 ^ 64
-place_fits n k h l = omega arith

@@ -8,15 +8,15 @@ use Rattle.sun.specs.declared.term.TermRecord.{TermRecord}
 use Rattle.sun.specs.Said.{values_of_term}
 use Rattle.values.specs.Said.{head_given}
 use Rattle.lists.specs.declared.read.ReadAnswer.{ReadAnswer}
-use Rattle.lists.specs.declared.read.ReadAnswer.TheVariants as read_answer
+use Rattle.lists.specs.declared.read.ReadAnswer.TheVariants as read-answer
 use Rattle.lists.specs.declared.read.ReadYear.{ReadYear}
 use Rattle.lists.specs.declared.read.Reading.{Reading}
 use Rattle.lists.specs.Records.{keeps}
 
 abbrev pub said_read_answer : ReadAnswer → Answer Checked
-said_read_answer (read_answer.Sound end) = value (sound end)
-said_read_answer (read_answer.Unsound r byte) = value (faulty (number_of r) byte)
-said_read_answer (read_answer.Refused r) = refused (number_of r)
+said_read_answer (read-answer.Sound end) = value (sound end)
+said_read_answer (read-answer.Unsound r byte) = value (faulty (number_of r) byte)
+said_read_answer (read-answer.Refused r) = refused (number_of r)
 
 -- what is said of a year read, and its head
 pub record YearRead (b : List ℕ) (answer : Answer Checked) (r : ReadYear) : Type 0 where

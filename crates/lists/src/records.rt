@@ -1,5 +1,5 @@
-// Records by value into a lent list, and out of one. The functions over a list are thin, since their proofs are made by hand: what
-// is to be stored is worked out by value first.
+// Records by value into a lent list, and out of one. The functions over a list are thin: what is to be stored is worked out by value
+// first.
 ghost use Rattle.std.specs.Prelude.{◌≡◌, ◌≤◌, ◌<◌, length};
 ghost use Rattle.lists.specs.Records.{record_at, with_record, stored_in, fitting_count, none_of, first_records};
 
@@ -55,6 +55,7 @@ pub(crate) fn store_records(list: &mut [TermRecord], records: Records)
 }
 
 // As many records as are to be taken from a list, still blank.
+#[tactic(auto, unfolding(crate::specs::Records::first_count))]
 fn none_of(room: usize) -> Records
     ensures { (result ≡ none_of room) × (result.count ≤ 24) × (result.count ≤ room) }
 {

@@ -35,7 +35,7 @@ one_values z z' p q =
     ap₂ (λ (a : BookAnswer) (h : Head). made a h z.terms) (one_said said_checked checked_from checked_back p.says q.says) (one_head p.head q.head)
     ∙ ap (made z'.answer z'.head) (one_records p.terms q.terms)
 
-pub read_values_held : Held read-values.ended (λ M. read-values.clauses {M = M})
+pub read_values_held : Held read-values.ended (λ M 𝓤. read-values.clauses {M = M} {𝓤 = 𝓤})
 read_values_held M 𝓤 𝓛 mem run κs a = by_facts 𝓤 (λ z z' w w' p q. (one_values z z' p q, refl))
 
 -- ---- a year written
@@ -51,9 +51,9 @@ written_back (written.Refused r) = ap written.Refused (refusal_back r)
 pub one_written : {answer : List ℕ → Answer (List ℕ)} {b w w' : List ℕ} {z z' : Written} → Told answer b w z → Told answer b w' z' → (z ≡ z') × (w ≡ w')
 one_written p q = (one_said said_written written_from written_back p.says q.says, one p.holds q.holds)
 
-pub write_values_held : Held write-values.ended (λ M. write-values.clauses {M = M})
+pub write_values_held : Held write-values.ended (λ M 𝓤. write-values.clauses {M = M} {𝓤 = 𝓤})
 write_values_held M 𝓤 𝓛 mem run κs a =
     by_facts 𝓤 (λ z z' w w' p q. let o = one_written p q in (o.0, ap (λ l. (tt, (tt, (l, tt)))) o.1))
 
-pub write_year_held : Held write-year.ended (λ M. write-year.clauses {M = M})
+pub write_year_held : Held write-year.ended (λ M 𝓤. write-year.clauses {M = M} {𝓤 = 𝓤})
 write_year_held M 𝓤 𝓛 mem run κs a = by_facts 𝓤 (λ z z' w w' p q. let o = one_written p q in (o.0, ap (λ l. (tt, (l, tt))) o.1))

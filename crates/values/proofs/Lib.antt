@@ -1,5 +1,5 @@
 pub mod GivenTerms
-pub mod ReadValues
+pub mod ReadForRoom
 pub mod WriteAnswers
 pub mod WorkedFits
 pub mod WrittenIsRead

@@ -18,7 +18,7 @@ use Rattle.law.specs.Book.{BookYear, Checked, sound, two_at, year_size, year_fro
 use Rattle.reasoning.proofs.Answers.{PassedAll, passed_all}
 use Rattle.reasoning.proofs.Answers.{both_no}
 use Rattle.book.proofs.YearSteps.{SoundTerms, SoundYear, year_sound}
-use Rattle.values.proofs.ReadValues.{terms_many, read_as}
+use Rattle.values.proofs.ReadForRoom.{terms_many, read_as}
 use Rattle.values.proofs.WriteAnswers.{write_done}
 use Rattle.values.proofs.WrittenIsRead.{bytes_before, bytes_long, Fits, counts_aside, written_accepted, written_reads_back}
 use Rattle.values.proofs.ReadIsWritten.{Bytes, written_again}

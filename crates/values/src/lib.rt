@@ -1,5 +1,6 @@
 // A year of the term book between its bytes and its values, and the bureau's own year written. No public function has a `requires`.
 #![tactic(auto)]
+
 mod head;
 mod read;
 mod worked_year;

@@ -11,7 +11,6 @@ use Rattle.reasoning.specs.InOrder.{in_order}
 use Rattle.law.specs.Document.{TermValues}
 use Rattle.law.specs.Book.{Checked, sound, faulty, Next, next_year, book_end, stop, year_from, next_at, two_at, head_size, term_in, terms_in, values_in}
 use Rattle.reasoning.proofs.InOrder.{in_order_same}
-use Rattle.book.proofs.BytesLeft.{two_drop}
 use Rattle.book.proofs.YearSteps.{year_none}
 use Rattle.book.proofs.BookSteps.{year_found, fault_found, end_reached}
 
@@ -28,10 +27,6 @@ first_year_lem b (stop n p) q = sym (fault_found b 0 0 n p (sym q)).1
 
 lowered_is : (lo n : ℕ) {d : ℤ} → Is d n lo → d ≡ pos n -ℤ pos lo
 lowered_is lo n h = same h (is_minus (is_pos n) (is_pos lo)) (omega arith)
-
-pub term_read : (b : List ℕ) (at : ℕ) {d : ℤ} {j m : ℕ} → Is d j 4 → j ≡ two_at b (at + 2) → m ≡ two_at b (at + 4)
-    → record { day_of_term = d; minute_of_term = m; count_of_term = 0 } ≡ term_in (drop at b)
-term_read b at {j = j} i p q = rw (lowered_is 4 j i, p, q, two_drop b at 2, two_drop b at 4)
 
 terms_in_order : (n z : ℕ) (b : List ℕ) → terms_in n (drop z b) ≡ in_order (λ (k : ℕ). term_in (drop (z + k * 6) b)) n
 unfolding terms_in in_order

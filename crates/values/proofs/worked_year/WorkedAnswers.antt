@@ -1,13 +1,16 @@
 -- What the writer answers: a year worked out is written as it is, or its refusal is the writer's. Assumes nothing.
 use mathlib.Core.Bool.{Bool, true, false}
 use mathlib.Core.List.{List, map}
-use mathlib.Core.Path.{◌≡◌, refl, ap, ◌∙◌}
+use mathlib.Core.Path.{◌≡◌, refl, ap, ◌∙◌, subst}
 use Prim.Native.Nat.{ℕ, ◌≤◌, ◌<◌}
 use native.Mathlib.Omega.{arith}
 use borrow.Author.Tests.{lt-ltb, le-ltb, ltb-false}
 use lib.Dec.{ltb}
 use lib.IntN.{ℤ}
 use lib.ListN.{length, drop}
+use mir.Syntax.{w64}
+use mir.Val.{SFits}
+use mir.Facts.{to_z-of_z}
 use Rattle.reasoning.specs.Answer.{value, refused, refusing, done}
 use Rattle.reasoning.specs.InOrder.{in_order}
 use Rattle.reasoning.proofs.Answers.{both_no}
@@ -15,6 +18,7 @@ use Rattle.law.specs.Document.{epicycles, bad_year, day_name, mansion, YearValue
 use Rattle.law.specs.Index.{year_index}
 use Rattle.law.specs.Book.{any_bad, bad_values, bytes_of, worked_year, worked_answer}
 use Rattle.units.specs.Said.{number_of}
+use Rattle.units.proofs.Machine.{read}
 use Rattle.sun.specs.declared.worked_year.WorkedYear.{WorkedYear}
 use Rattle.sun.specs.Said.{values_of_term}
 use Rattle.sun.specs.Worked.{terms_or_zeros, year_or_zeros, WorkedOut}
@@ -33,6 +37,10 @@ same_refusal : {A B : Type 0} (p q : Bool) (x : A) (y : B) {k : ℕ} → refused
 same_refusal true q x y e = ap refused (cc)
 same_refusal false true x y e = ap refused (cc)
 same_refusal false false x y e = absurd (let z : ◌≡◌ {A = ℕ} 0 1 = cc in omega arith)
+
+-- what `work_year` said, handed the machine's reading of the year
+pub worked_told : (e : ℕ) {n : ℤ} {r : WorkedYear} → SFits w64 n → WorkedOut (read w64 n) (terms_answer e (read w64 n)) r → WorkedOut n (terms_answer e n) r
+worked_told e {r = r} f w = subst (λ (z : ℤ). WorkedOut z (terms_answer e z) r) (to_z-of_z f) w
 
 -- a year worked out, as it is to be written
 pub record Worked (e : ℕ) (N : ℤ) (r : WorkedYear) : Type 0 where
