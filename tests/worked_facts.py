@@ -605,7 +605,7 @@ def lines():
         yield f"{name}_last", clock(f"{name}_of", part, last)
         yield f"{name}_before_midnight", clock(f"{name}_of", part, expected.DAY - 1)
     yield "minute_60", clock("minute_of", 1, -(-expected.DAY // 24))
-    # no fraction's minutes, and of the hours no other's than hour-last-but-one's, come nearer to whole ones from below
+    # no fraction's minutes, and of the hours no other's than hour_last_but_one's, come nearer to whole ones from below
     yield "minute_nearest", clock("minute_of", 1, 4_861_111)
 
 
