@@ -1,4 +1,4 @@
-// The solstice program in plain Rust, buffered: what `target/bin/solstice` is timed against. It shares nothing with the Rattle sources.
+// The solstice program in plain Rust, buffered: what `crates/solstice/out/solstice` is timed against. It shares nothing with the Rattle sources.
 use std::io::{self, BufRead, BufWriter, Write};
 
 const DAY: i64 = 1_000_000_000;

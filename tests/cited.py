@@ -12,16 +12,16 @@ import sys
 from pathlib import Path
 
 ROOT_FOLDER = Path(__file__).resolve().parent.parent
-NOT_OURS = {"requires", "ensures", "io", "libc"}  # words and crates of the language
+NOT_OURS = {"requires", "ensures", "result", "std"}  # words and crates of the language
 NAMED_WHOLLY = ("PROMISES.md", "ARCHITECTURE.md")
 FILE_KINDS = "antt|rt|edit|md|py|rs|c|h|svg|html|css|js|txt|in|out|err|given"
-NAME = r"[A-Za-z][\w′-]*"
+NAME = r"[A-Za-z][\w'-]*"
 
 
 def tree():
     """Every file and folder, as paths from the root; what is built is none of them."""
     for folder, folders, files in os.walk(ROOT_FOLDER):
-        folders[:] = [name for name in folders if name not in ("target", ".git")]
+        folders[:] = [name for name in folders if name not in ("target", "out", ".git")]
         for name in folders + files:
             yield os.path.relpath(os.path.join(folder, name), ROOT_FOLDER)
 
@@ -87,7 +87,7 @@ def is_path(cited):
 
 def found_anywhere(cited):
     """Whether what is cited by itself is there; nothing is said of what is no citation."""
-    if cited.startswith("target/") or cited.startswith(("libc::", "io::")):
+    if re.match(r"target/|crates/\w+/out/|std::", cited):  # what is built, and what is not ours
         return True
     if is_path(cited):
         return bool(files_at(cited) or edits_named(cited))

@@ -417,10 +417,10 @@ def place_lines():
 
 # Where rounding shows, year and term; assert_rounded_terms holds each to its name.
 ROUNDED_TERMS = {
-    "carried-first": (-255, 0),  # the least and the greatest k of those whose minute rounds to 1,440
-    "carried-last": (-1556, 22),
-    "nearest-past-half": (-104, 5),  # no term is exactly at half a minute
-    "nearest-under-half": (527, 23),
+    "carried_first": (-255, 0),  # the least and the greatest k of those whose minute rounds to 1,440
+    "carried_last": (-1556, 22),
+    "nearest_past_half": (-104, 5),  # no term is exactly at half a minute
+    "nearest_under_half": (527, 23),
 }
 
 

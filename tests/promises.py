@@ -1,5 +1,5 @@
 """Lists what the library crates export, and fails if a public function promises nothing, asks something of its caller, or is not
-held fast: has no theorem `..-held`, which says of its generated contract that any two answers it allows are equal.
+held fast: has no theorem `.._held`, which says of its generated contract that any two answers it allows are equal.
 
     python3 tests/promises.py   from the sources alone: nothing is stored here but the exception below
 """
@@ -11,7 +11,7 @@ from pathlib import Path
 CRATES = Path(__file__).resolve().parent.parent / "crates"
 
 # What is read or written is no argument and no answer, so no contract can speak of it, and two answers to one call may differ. These
-# libraries do nothing else, which their use of `libc` shows; their functions may promise nothing. They too may ask nothing.
+# libraries do nothing else, which their use of std's input and output shows; their functions may promise nothing. They too may ask nothing.
 READS_AND_WRITES = {"console"}
 
 
@@ -37,7 +37,8 @@ def clauses_of(text, at):
     found = []
     while True:
         brace = text.index("{", at)
-        word = re.search(r"\b(requires|ensures)\s*$", text[at:brace])
+        # `requires`, `ensures name`, `requires* name`
+        word = re.search(r"\b(ghost|requires|ensures)\*?(?:\s+\w+)?\s*$", text[at:brace])
         if not word:
             return found
         found.append(word[1])
@@ -63,12 +64,13 @@ def public_functions(crate):
 
 
 def held_functions(crate):
-    """The places of the functions of which some file of the crate's proofs has a theorem `..-held`."""
+    """The places of the functions of which some file of the crate's proofs has a theorem `.._held`."""
     for file in (crate / "proofs").rglob("*.antt"):
         text = re.sub(r"--[^\n]*", "", file.read_text())
         text = re.sub(r"\n[ \t]+", " ", text)  # a statement on one line
-        named = dict((alias, place) for place, alias in re.findall(rf"^use Rattle·{crate.name}·proofs\.proofs\.(\S+) as (\S+)", text, re.M))
-        for alias, again in re.findall(r"^pub \S+-held : (?:Held|Seen) (\S+)\.ended\b.*\(λ M\. (\S+)\.clauses \{M = M\}\)$", text, re.M):
+        named = dict((alias, place) for place, alias in re.findall(rf"^use Rattle\.{crate.name}\.specs\.contracts\.(\S+) as (\S+)", text, re.M))
+        theorem = r"^pub \S+_held : (?:Held|Seen) (\S+)\.ended\b.*\(λ M 𝓤\. (\S+)\.clauses \{M = M\} \{𝓤 = 𝓤\}\)$"
+        for alias, again in re.findall(theorem, text, re.M):
             if alias == again and alias in named:
                 yield named[alias]
 
@@ -83,14 +85,14 @@ def libraries():
     return [lib.parent.parent for lib in sorted(CRATES.glob("*/src/lib.rt"))]
 
 
-def uses_libc(crate):
-    line = re.search(rf"^{crate.name}:(.*)", (CRATES.parent / "crates.txt").read_text(), re.M)
-    return "libc" in line[1].split()
+def reads_or_writes(crate):
+    sources = [without_comments_and_literals(file.read_text()) for file in (crate / "src").rglob("*.rt")]
+    return any(re.search(r"\bstd::(?:io|fs)\b|\bHostRuntime\b|\be?print(?:ln)?!", source) for source in sources)
 
 
 def complaints(crate, functions):
     unspoken = crate.name in READS_AND_WRITES
-    if unspoken and not uses_libc(crate):
+    if unspoken and not reads_or_writes(crate):
         yield f"{crate.name} neither reads nor writes, and is excepted"
     held = set(held_functions(crate))
     for place, clauses in functions:
@@ -99,7 +101,7 @@ def complaints(crate, functions):
         if "ensures" not in clauses and not unspoken:
             yield f"{crate.name}: {place} promises nothing"
         if place not in held and not unspoken:
-            yield f"{crate.name}: {place} has no theorem ..-held"
+            yield f"{crate.name}: {place} has no theorem .._held"
 
 
 def main():

@@ -82,7 +82,7 @@ def expected_year(n):
 
 # The picture, from the program itself where it is built; tests/run holds it to the independent one.
 
-PROGRAM = ROOT_FOLDER / "target/bin/ring"
+PROGRAM = ROOT_FOLDER / "crates/ring/out/ring"
 
 
 def ring(n):
