@@ -1,6 +1,6 @@
 -- What a call leaves: its number, and what lies behind the pointers that it was lent. Assumes nothing.
 use Rattle.std.specs.Prelude.{◌≡◌, ℕ}
-use Rattle.std.specs.Borrow.{Bor}
+use Rattle.std.specs.Borrow.{MutBor}
 use denote.Triple.Both.{Both}
 use Rattle.reasoning.specs.Answer.{Answer, refusal_in, afterwards, part}
 
@@ -9,7 +9,7 @@ pub record Lent (A : Type 0) : Type 0 where
   pub before : A
   pub after : A
 
-abbrev pub lent : {A : Type 0} → Both (Bor A) (Bor A) → Lent A
+abbrev pub lent : {A : Type 0} → Both (MutBor A) (MutBor A) → Lent A
 lent pointer = record { before = pointer.entry.now; after = pointer.exit.now }
 
 -- one part of the value is stored there; a refusal leaves what was there

@@ -1,2 +1,0 @@
--- What the proofs of the two writers use.
-pub mod WrittenTold

@@ -1,2 +1,0 @@
--- What the proof of `bhromilun_terms` uses.
-pub mod WorkedTold
