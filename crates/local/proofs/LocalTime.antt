@@ -1,7 +1,7 @@
 -- A local time is counted in clock seconds from the midnight of day -5 on: one day before the least day that is given, so that
 -- none is below 0. Five days less, cut off to minutes and carried, it is the document's; its answer by cases; and the days that it
 -- reaches. Assumes nothing.
-use mathlib.Core.Path.{◌≡◌, refl, ap, sym, subst}
+use mathlib.Core.Path.{◌≡◌, refl, ap, sym, subst, ◌∙◌}
 use mathlib.Core.Bool.{Bool, true, false, not, ◌||◌}
 use Prim.Native.Nat.{ℕ, zero, suc, ◌+◌, ◌*◌, ◌-◌, ◌/◌, ◌%◌, ◌≤◌, ◌<◌}
 use native.Mathlib.Omega.{arith}
@@ -16,7 +16,11 @@ use Rattle.law.specs.Document.{clock_of_arc, local_minutes, local_day, local_min
 use Rattle.reasoning.proofs.Answers.{same_value, never}
 use Rattle.law.proofs.Floor.{div_is, mod_is, floor_less}
 use Rattle.units.specs.IndexAnswers.{day_index_answer}
-use Rattle.units.proofs.IndexAnswers.{day_out}
+use mir.Syntax.{w64}
+use mir.Val.{SFits}
+use mir.Facts.{to_z-of_z}
+use Rattle.units.proofs.Machine.{read}
+use Rattle.units.proofs.IndexAnswers.{day_in, day_out}
 use Rattle.units.proofs.Clock.{clock_east, clock_west}
 
 -- ---- the shift
@@ -76,6 +80,10 @@ module _ (d : ℤ) (m : ℕ) (arc : ℤ) {j : ℕ} (i : Indexed 4 370 d j) where
       → value (record { day_there = day; minute_there = t / 60 % 1_440 }) ≡ local_answer d m arc
   unfolding local_answer
   local_is t g h e f = rw (i.test, le-ltb _ _ g, h, local_day_is d m arc j t i.is e, local_minute_is d m arc j t i.is e, f) refl
+
+-- a day that was indexed, and a minute past the day's last: j is what was said of the machine's reading of the day
+pub local_late_minute : (d : ℤ) (m : ℕ) (arc : ℤ) {j : ℕ} → SFits w64 d → value j ≡ day_index_answer (read w64 d) → 1_439 < m → refused 2 ≡ local_answer d m arc
+local_late_minute d m arc f e h = local_bad_minute d m arc (day_in d (e ∙ ap day_index_answer (to_z-of_z f))) h
 
 -- ---- every day that is answered
 size_most : (z : ℤ) → (up z ≤ nat_abs z) × (down z ≤ nat_abs z)

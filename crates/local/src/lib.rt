@@ -54,6 +54,7 @@ fn day_at(seconds: u64) -> i64
     ((seconds / DAY) as i64) - 5
 }
 
+#[tactic(auto, using(crate::proofs::LocalTime::local_late_minute))]
 pub fn local_time(day: i64, minute: u64, longitude: ArcSeconds) -> LocalAnswer
     ensures { said_local result ≡ local_answer day minute longitude.0 }
 {

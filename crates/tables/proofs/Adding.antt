@@ -9,8 +9,8 @@ use lib.ListN.{length, get_or, set, take, drop, replicate}
 use Rattle.reasoning.proofs.Stored.{more_stored}
 use Rattle.law.specs.Sines.{sines}
 use Rattle.law.specs.Entry.{last_sine, sine_entry}
-use Rattle.law.proofs.Rules.{sine_step, sine_top}
-use Rattle.tables.specs.Steps.{steps_of, Rebuilt}
+use Rattle.law.proofs.Rules.{sine_step, sine_top, sine_past}
+use Rattle.tables.specs.Steps.{steps_of, entry_and_step, Rebuilt}
 
 step_at : (entries : List ℕ) (k : ℕ) → suc k < length entries → get_or (steps_of entries) k 0 ≡ get_or entries (suc k) 0 - get_or entries k 0
 unfolding steps_of
@@ -38,6 +38,21 @@ step_read {steps} e k h =
       next = omega (arith, is, sine_step k h);
       most = sine_top (k + 1) (omega arith);
     }
+
+-- ---- an entry with its step: past the last seat both are 0, at the last entry there is no step, before it the step is the definition's
+
+both : (k e s : ℕ) → e ≡ sine_entry k → s ≡ sine_entry (k + 1) - sine_entry k → record { entry = e; step = s } ≡ entry_and_step k
+both k e s p q = rw (p, q) refl
+
+pub past_the_end : (k : ℕ) → last_sine < k → record { entry = 0; step = 0 } ≡ entry_and_step k
+past_the_end k h = both k 0 0 (omega (arith, sine_past k (omega arith))) (omega (arith, sine_past (k + 1) (omega arith)))
+
+pub at_the_end : (k e : ℕ) → k ≡ last_sine → e ≡ sine_entry k → record { entry = e; step = 0 } ≡ entry_and_step k
+at_the_end k e h p = both k e 0 p (omega (arith, sine_past (k + 1) (omega arith)))
+
+pub before_the_end : (steps : List ℕ) (k e : ℕ) → steps ≡ steps_of sines → k < last_sine → e ≡ sine_entry k
+    → record { entry = e; step = get_or steps k 0 } ≡ entry_and_step k
+before_the_end steps k e q h p = both k e _ p (step_read q k h).is
 
 -- ---- the table while it is rebuilt
 

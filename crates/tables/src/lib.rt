@@ -49,6 +49,7 @@ fn added_up(steps: &[u16; 540], k: usize) -> u32
     entry
 }
 
+#[tactic(auto, using(crate::proofs::Adding::past_the_end, crate::proofs::Adding::at_the_end, crate::proofs::Adding::before_the_end))]
 fn entry_and_step(steps: &[u16; 540], k: usize) -> EntryAndStep
     requires { steps.now ≡ steps_of sines }
     ensures { result ≡ entry_and_step k }
@@ -66,6 +67,7 @@ fn entry_and_step(steps: &[u16; 540], k: usize) -> EntryAndStep
     }
 }
 
+#[tactic(auto, using(crate::proofs::Entries::tangent_read, crate::proofs::Entries::tangent_none))]
 fn tangent_in(table: &[u64; 131], m: usize) -> u64
     requires { table.now ≡ tangents }
     ensures { result ≡ tangent_entry m }
