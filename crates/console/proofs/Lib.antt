@@ -1,1 +1,3 @@
 pub mod SixReads
+pub mod ReadSoFar
+pub mod RefusalLines

@@ -1,7 +1,6 @@
-// What the programs share: text, numbers and refusals written, and the first line of standard input. No contract can say what is
-// written or read, so these functions promise to be safe and to end, and of `first_line` that its reads are enough; what they write
-// is run and compared. None has a `requires`.
+// What the programs share: text, numbers and refusals written, and the first line of an input. None has a `requires`.
 #![tactic(auto)]
+
 mod input;
 mod output;
 

@@ -1,50 +1,60 @@
-// Standard output, and standard error for what went wrong.
-use libc::{STDERR_FILENO, STDOUT_FILENO};
+// Text, numbers and refusals, each written after what a writer holds; and on standard error what went wrong.
+ghost use Rattle.std.specs.Prelude.{◌<◌, ◌≤◌, ◌++◌, OnOk, codes, decimal};
+ghost use Rattle.std.specs.Fmt.{signed_decimal};
+ghost use Rattle.std.specs.Io.KnownBytes.{Appends};
+ghost use Rattle.law.specs.Request.{refused_text};
+ghost use Rattle.units.specs.Said.{number_of};
+
+use std::io;
+use std::io::Write;
 use units::Refusal;
 
-pub fn text(bytes: &[u8]) {
-    io::write_all(STDOUT_FILENO, bytes);
+pub fn text<W: Write>(out: &mut W, bytes: &[u8]) -> io::Result<()>
+    ensures { OnOk result (Appends (W.contents out.old) (W.contents out.new) bytes.now) }
+{
+    out.write_all(bytes)
 }
 
-pub fn number(n: u64) {
-    io::print_decimal(STDOUT_FILENO, n);
+pub fn number<W: Write>(out: &mut W, n: u64) -> io::Result<()>
+    ensures { OnOk result (Appends (W.contents out.old) (W.contents out.new) (decimal n)) }
+{
+    write!(out, "{n}")
 }
 
-pub fn two_digits(n: u64) {
+pub fn two_digits<W: Write>(out: &mut W, n: u64) -> io::Result<()>
+    ensures one { n < 10 → OnOk result (Appends (W.contents out.old) (W.contents out.new) (codes "0" ++ decimal n)) }
+    ensures more { 10 ≤ n → OnOk result (Appends (W.contents out.old) (W.contents out.new) (decimal n)) }
+{
     if n < 10 {
-        text(b"0");
+        write!(out, "0{n}")
+    } else {
+        write!(out, "{n}")
     }
-    number(n);
 }
 
-pub fn signed(z: i64) {
-    if z < 0 {
-        text(b"-");
-    }
-    number(units::size(z));
-}
-
-fn refused_on(to: i32, refusal: Refusal) -> bool {
-    if !io::write_all(to, b"refused ") {
-        return false;
-    }
-    io::print_decimal(to, units::refusal_number(refusal))
+pub fn signed<W: Write>(out: &mut W, z: i64) -> io::Result<()>
+    ensures { OnOk result (Appends (W.contents out.old) (W.contents out.new) (signed_decimal z)) }
+{
+    write!(out, "{z}")
 }
 
 // Within a line.
-pub fn refused(refusal: Refusal) {
-    refused_on(STDOUT_FILENO, refusal);
+pub fn refused<W: Write>(out: &mut W, refusal: Refusal) -> io::Result<()>
+    ensures { OnOk result (Appends (W.contents out.old) (W.contents out.new) (codes "refused " ++ decimal (number_of refusal))) }
+{
+    let n = units::refusal_number(refusal);
+    write!(out, "refused {n}")
 }
 
-// A line of its own, on the descriptor named. Says whether all was written.
-pub fn refusal_line(to: i32, refusal: Refusal) -> bool {
-    if !refused_on(to, refusal) {
-        return false;
-    }
-    io::write_all(to, b"\n")
+// A line of its own.
+pub fn refusal_line<W: Write>(out: &mut W, refusal: Refusal) -> io::Result<()>
+    ensures { OnOk result (Appends (W.contents out.old) (W.contents out.new) (refused_text (number_of refusal))) }
+{
+    let n = units::refusal_number(refusal);
+    writeln!(out, "refused {n}")
 }
 
-// On standard error, since a program has no exit status to give.
-pub fn tell(words: &[u8]) {
-    io::write_all(STDERR_FILENO, words);
+// A line on standard error. Where that cannot be written, nobody can be told.
+pub fn tell(rt: &impl Eprint, words: &str) {
+    let _ = rt.eprintln(words);
 }

@@ -1,7 +1,8 @@
 // Draws the wall of the year that the first line of standard input asks, in SVG: its 24 terms round a ring, the winter solstice at
 // the top, and inside the sun at each midnight and the year. Nothing but a picture goes to standard output: a refusal and a failed
-// read or write are told on standard error, since there is no exit status to give.
+// read or write are told on standard error.
 #![tactic(auto)]
+
 mod circle;
 mod middle;
 mod midnights;
@@ -12,13 +13,17 @@ mod template;
 mod terms;
 
 use console::{Reading, tell};
-use libc::{STDERR_FILENO, STDOUT_FILENO};
 use page::{FULL, Page};
+use std::io::{Read, Write};
 use sun::Listed;
 use units::{Refusal, Signed};
 
-fn refuse(refusal: Refusal) {
-    console::refusal_line(STDERR_FILENO, refusal);
+#[derive(Clone, Copy)]
+enum Failed {
+    Read,
+    Refused(Refusal),
+    Draw,
+    Write,
 }
 
 fn first_bytes(page: &[u8], size: usize) -> &[u8] {
@@ -30,15 +35,17 @@ fn first_bytes(page: &[u8], size: usize) -> &[u8] {
 }
 
 // Nothing is written of a full page.
-fn write(page: &Page, size: usize) {
+fn write(out: &mut impl Write, page: &Page, size: usize) -> Result<(), Failed> {
     if FULL <= size {
-        tell(b"the picture could not be drawn\n");
-    } else if !io::write_all(STDOUT_FILENO, first_bytes(page, size)) {
-        tell(b"the picture could not be written\n");
+        return Err(Failed::Draw);
+    }
+    match out.write_all(first_bytes(page, size)) {
+        Ok(()) => Ok(()),
+        Err(_) => Err(Failed::Write),
     }
 }
 
-fn draw(n: i64) {
+fn draw(out: &mut impl Write, n: i64) -> Result<(), Failed> {
     let worked = sun::work_year(n);
     let answer = worked.answer;
     match answer {
@@ -47,23 +54,36 @@ fn draw(n: i64) {
             let year = worked.year;
             let terms = worked.terms;
             let size = picture::picture(&mut page, n, year, terms);
-            write(&page, size);
+            write(out, &page, size)
         }
-        Listed::Refused(refusal) => refuse(refusal),
+        Listed::Refused(refusal) => Err(Failed::Refused(refusal)),
     }
 }
 
-fn answer(asked: Signed) {
+fn answer(out: &mut impl Write, asked: Signed) -> Result<(), Failed> {
     match asked {
-        Signed::Is(n) => draw(n),
-        Signed::Refused(refusal) => refuse(refusal),
+        Signed::Is(n) => draw(out, n),
+        Signed::Refused(refusal) => Err(Failed::Refused(refusal)),
     }
 }
 
-fn main() {
-    let Reading::Asked(asked) = console::first_line() else {
-        tell(b"the line could not be read\n");
-        return;
+fn answer_first_line(input: &mut impl Read, out: &mut impl Write) -> Result<(), Failed> {
+    let Reading::Asked(asked) = console::first_line(input) else {
+        return Err(Failed::Read);
     };
-    answer(asked);
+    answer(out, asked)
+}
+
+fn refuse(rt: &HostRuntime, refusal: Refusal) {
+    let _ = console::refusal_line(&mut rt.stderr(), refusal);
+}
+
+fn main(rt: HostRuntime) {
+    match answer_first_line(&mut rt.stdin(), &mut rt.stdout()) {
+        Ok(()) => {}
+        Err(Failed::Read) => tell(&rt, "the line could not be read"),
+        Err(Failed::Refused(refusal)) => refuse(&rt, refusal),
+        Err(Failed::Draw) => tell(&rt, "the picture could not be drawn"),
+        Err(Failed::Write) => tell(&rt, "the picture could not be written"),
+    }
 }

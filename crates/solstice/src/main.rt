@@ -1,70 +1,91 @@
 // Answers each line of standard input, in order: a year's mean solstice and mansion, or a refusal. It
 // keeps the line so far as a small state, so memory does not grow; a write is made for a block read, not for a line.
-// There is no exit status to give: a failed read or write is told on standard error, and ends the program.
+// A failed read or write is told on standard error, and ends the program.
 #![tactic(auto)]
-use libc::{STDIN_FILENO, STDOUT_FILENO};
-use request::Line;
 
-// The line that has not ended yet, and whether there is more to be read.
-#[derive(Drop)]
-struct Turned {
-    line: Line,
-    more: bool,
+ghost use Rattle.std.specs.Prelude.{◌*◌, ◌<◌, ◌≤◌, length, IfOk, IfSome, OnOk};
+ghost use Rattle.std.specs.Io.KnownBytes.{Appends};
+ghost use Rattle.law.specs.Request.{output};
+ghost use Rattle.request.specs.Stream.{closing};
+ghost use Rattle.solstice.specs.Turns.{Answers};
+
+use request::Line;
+use std::io::{Read, Write};
+
+#[derive(Clone, Copy)]
+enum Failed {
+    Read,
+    Write,
 }
 
-// Says whether all was written.
-fn put(answers: &[u8]) -> bool {
-    if io::write_all(STDOUT_FILENO, answers) {
-        return true;
+fn put<W: Write>(out: &mut W, answers: &[u8]) -> Result<(), Failed>
+    ensures { OnOk result (Appends (W.contents out.old) (W.contents out.new) answers.now) }
+{
+    match out.write_all(answers) {
+        Ok(()) => Ok(()),
+        Err(_) => Err(Failed::Write),
     }
-    console::tell(b"the answers could not be written\n");
-    false
 }
 
 // The answer to a last line without its newline.
-fn last(line: Line, out: &mut [u8]) {
-    let n = request::finish(line, out);
-    put(&out[..n]);
+fn last<W: Write>(out: &mut W, line: Line, answers: &mut [u8]) -> Result<(), Failed>
+    requires { 32 ≤ length answers.old }
+    ensures { OnOk result (Appends (W.contents out.old) (W.contents out.new) (closing line)) }
+{
+    let n = request::finish(line, answers);
+    put(out, &answers[..n])
 }
 
-// One read, and the answers to the lines that end in it. A line that a failed read leaves unfinished is not answered.
-fn turn(line: Line, block: &mut [u8], out: &mut [u8]) -> Turned {
-    let got = libc::read(STDIN_FILENO, block);
-    if got < 0 {
-        console::tell(b"the input could not be read\n");
-        return Turned { line, more: false };
-    }
-    let n = io::count(got, block);
+// One read, and the answers to the lines that end in it; the line that has not ended yet, or none where the input has ended.
+// A line that a failed read leaves unfinished is not answered.
+fn turn<R: Read, W: Write>(
+    input: &mut R,
+    out: &mut W,
+    line: Line,
+    block: &mut [u8],
+    answers: &mut [u8],
+) -> Result<Option<Line>, Failed>
+    requires some { 0 < length block.old }
+    requires room { 32 * length block.old ≤ length answers.old }
+    ensures { IfOk result
+        (Answers (R.remaining input.old) (R.remaining input.new) (W.contents out.old) (W.contents out.new) line) }
+{
+    let Ok(n) = input.read(block) else {
+        return Err(Failed::Read);
+    };
     if n == 0 {
-        last(line, out);
-        return Turned {
-            line: Line::Empty,
-            more: false,
-        };
+        last(out, line, answers)?;
+        return Ok(None);
     }
-    let fed = request::feed(line, &block[..n], out);
+    let fed = request::feed(line, &block[..n], answers);
     let next = fed.line;
     let written = fed.written;
-    let done = put(&out[..written]);
-    Turned {
-        line: next,
-        more: done,
-    }
+    put(out, &answers[..written])?;
+    Ok(Some(next))
 }
 
-// A proved loop has to end, and nothing says that an input does: so the turns are counted down, from a number that no run uses up.
-fn main() {
-    // made once, not at each read; and `feed` asks for 32 bytes of out for each byte of block
+// A proved loop has to end, and nothing says that an input does: so the turns are counted, up to a number that no run reaches.
+fn answer_all<R: Read, W: Write>(input: &mut R, out: &mut W) -> Result<(), Failed>
+    ensures { OnOk result (IfSome (R.remaining input.old)
+        (λ bytes. Appends (W.contents out.old) (W.contents out.new) (output bytes))) }
+{
+    // made once, not at each read; and `feed` asks for 32 bytes of answers for each byte of block
     let mut block = [0u8; 2048];
-    let mut out = [0u8; 65536];
+    let mut answers = [0u8; 65536];
     let mut line = Line::Empty;
-    let mut turns = u64::MAX;
-    while turns > 0 {
-        let turned = turn(line, &mut block, &mut out);
-        line = turned.line;
-        if !turned.more {
-            return;
+    for _ in 0..u64::MAX {
+        match turn(input, out, line, &mut block, &mut answers)? {
+            Some(open) => line = open,
+            None => return Ok(()),
         }
-        turns -= 1;
+    }
+    Err(Failed::Read)
+}
+
+fn main(rt: HostRuntime) {
+    match answer_all(&mut rt.stdin(), &mut rt.stdout()) {
+        Ok(()) => {}
+        Err(Failed::Read) => console::tell(&rt, "the input could not be read"),
+        Err(Failed::Write) => console::tell(&rt, "the answers could not be written"),
     }
 }
