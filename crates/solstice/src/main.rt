@@ -29,8 +29,7 @@ fn put<W: Write>(out: &mut W, answers: &[u8]) -> Result<(), Failed>
 
 // The answer to a last line without its newline.
 fn last<W: Write>(out: &mut W, line: Line, answers: &mut [u8]) -> Result<(), Failed>
-    requires { 32 ≤ length answers.old }
-    ensures { OnOk result (Appends (W.contents out.old) (W.contents out.new) (closing line)) }
+    ensures { 32 ≤ length answers.old → OnOk result (Appends (W.contents out.old) (W.contents out.new) (closing line)) }
 {
     let n = request::finish(line, answers);
     put(out, &answers[..n])
@@ -45,9 +44,7 @@ fn turn<R: Read, W: Write>(
     block: &mut [u8],
     answers: &mut [u8],
 ) -> Result<Option<Line>, Failed>
-    requires some { 0 < length block.old }
-    requires room { 32 * length block.old ≤ length answers.old }
-    ensures { IfOk result
+    ensures { 0 < length block.old → 32 * length block.old ≤ length answers.old → IfOk result
         (Answers (R.remaining input.old) (R.remaining input.new) (W.contents out.old) (W.contents out.new) line) }
 {
     let Ok(n) = input.read(block) else {
