@@ -1,6 +1,6 @@
 // Of each damaged book: what checking it, seeking the year 0 in it, reading its first year and a reader's calls answer, what is
 // handed out where its years are corrections and a main book, and whether it is ours.
-ghost use Rattle.std.specs.Prelude.{◌≤◌};
+ghost use Rattle.std.specs.Prelude.{◌≤◌, IfOk};
 
 use crate::bytes::{byte_at, two_at};
 use crate::read::read_year;
@@ -8,6 +8,8 @@ use crate::refusals::refused_at;
 use crate::{corrected, readers};
 use book::{BookAnswer, Sought};
 use console::{number, refused, text};
+use std::io;
+use std::io::Write;
 use verify::Verdict;
 
 // The years -676, 0 and 321, and zeros after them.
@@ -26,49 +28,49 @@ fn base_book() -> [u8; 600] {
     room
 }
 
-fn checked(bytes: &[u8]) {
+fn checked(out: &mut impl Write, bytes: &[u8]) -> io::Result<()> {
     match book::check_book(bytes) {
-        BookAnswer::Sound(_) => text(b"sound"),
-        BookAnswer::Refused(refusal, byte) => refused_at(refusal, byte),
+        BookAnswer::Sound(_) => text(out, b"sound"),
+        BookAnswer::Refused(refusal, byte) => refused_at(out, refusal, byte),
     }
 }
 
-fn sought(bytes: &[u8]) {
+fn sought(out: &mut impl Write, bytes: &[u8]) -> io::Result<()> {
     match book::seek_year(bytes, 0) {
         Sought::Found(start, end) => {
-            number(start as u64);
-            text(b" to ");
-            number(end as u64);
+            number(out, start as u64)?;
+            text(out, b" to ")?;
+            number(out, end as u64)
         }
-        Sought::Unsound(refusal, byte) => refused_at(refusal, byte),
-        Sought::Refused(refusal) => refused(refusal),
+        Sought::Unsound(refusal, byte) => refused_at(out, refusal, byte),
+        Sought::Refused(refusal) => refused(out, refusal),
     }
 }
 
-fn verified(bytes: &[u8]) {
+fn verified(out: &mut impl Write, bytes: &[u8]) -> io::Result<()> {
     match verify::verify_book(bytes) {
-        Verdict::Ours => text(b"ours"),
+        Verdict::Ours => text(out, b"ours"),
         Verdict::NotOurs(byte) => {
-            text(b"not ours at ");
-            number(byte as u64);
+            text(out, b"not ours at ")?;
+            number(out, byte as u64)
         }
-        Verdict::Refused(refusal, byte) => refused_at(refusal, byte),
+        Verdict::Refused(refusal, byte) => refused_at(out, refusal, byte),
     }
 }
 
-fn line(bytes: &[u8]) {
-    checked(bytes);
-    text(b" | ");
-    sought(bytes);
-    text(b" | ");
-    read_year(bytes);
-    text(b" | ");
-    readers::calls(bytes);
-    text(b" | ");
-    corrected::years(bytes);
-    text(b" | ");
-    verified(bytes);
-    text(b"\n");
+fn line(out: &mut impl Write, bytes: &[u8]) -> io::Result<()> {
+    checked(out, bytes)?;
+    text(out, b" | ")?;
+    sought(out, bytes)?;
+    text(out, b" | ")?;
+    read_year(out, bytes)?;
+    text(out, b" | ")?;
+    readers::calls(out, bytes)?;
+    text(out, b" | ")?;
+    corrected::years(out, bytes)?;
+    text(out, b" | ")?;
+    verified(out, bytes)?;
+    text(out, b"\n")
 }
 
 fn put(bytes: &mut [u8], place: usize, byte: u8) {
@@ -87,36 +89,38 @@ fn change(input: &[u8], from: usize, changes: usize, bytes: &mut [u8])
     }
 }
 
-fn changed_line(input: &[u8], at: usize, bytes: &mut [u8])
+fn changed_line(out: &mut impl Write, input: &[u8], at: usize, bytes: &mut [u8]) -> io::Result<()>
     requires { at ≤ 262_144 }
 {
     let len = two_at(input, at);
     change(input, at + 4, two_at(input, at + 2), bytes);
     if len <= bytes.len() {
-        line(&bytes[..len]);
+        line(out, &bytes[..len])?;
     }
+    Ok(())
 }
 
 // One damaged book; answers where the next one starts.
-fn case(input: &[u8], at: usize, base: [u8; 600]) -> usize
+fn case(out: &mut impl Write, input: &[u8], at: usize, base: [u8; 600]) -> io::Result<usize>
     requires { at ≤ 262_144 }
-    ensures { result ≤ 500_000 }
+    ensures { IfOk result (λ next. next ≤ 500_000) }
 {
     let mut bytes = base;
-    changed_line(input, at, &mut bytes);
-    at + 4 + 3 * two_at(input, at + 2)
+    changed_line(out, input, at, &mut bytes)?;
+    Ok(at + 4 + 3 * two_at(input, at + 2))
 }
 
-pub(crate) fn lines(input: &[u8]) {
+pub(crate) fn lines(out: &mut impl Write, input: &[u8]) -> io::Result<()> {
     let base = base_book();
     let mut at = 0;
     for turn in 0..10_000u64 {
         if 262_144 < at {
-            return;
+            return Ok(());
         }
         if input.len() <= at {
-            return;
+            return Ok(());
         }
-        at = case(input, at, base);
+        at = case(out, input, at, base)?;
     }
+    Ok(())
 }

@@ -2,8 +2,10 @@
 ghost use Rattle.std.specs.Prelude.{◌≤◌, ◌<◌, ◌^◌};
 
 use crate::{entries, equations, places, terms, years};
+use std::io;
+use std::io::Write;
 
-#[derive(Drop)]
+#[derive(Clone, Copy)]
 pub enum Line {
     Sine,
     Tangent,
@@ -15,28 +17,29 @@ pub enum Line {
     Term,
 }
 
-fn print_line(what: Line, n: i64, i: u64)
+fn print_line(out: &mut impl Write, what: Line, n: i64, i: u64) -> io::Result<()>
     requires { i ≤ 5_000 }
 {
     match what {
-        Line::Sine => entries::sine(i),
-        Line::Tangent => entries::tangent(i),
-        Line::Year => years::twentieth(i),
-        Line::Joint => equations::joint(i),
-        Line::Arc => equations::arc(i),
-        Line::Spread => equations::spread(i),
-        Line::Place => places::eleventh(n, i),
-        Line::Term => terms::of_twentieth(i),
+        Line::Sine => entries::sine(out, i),
+        Line::Tangent => entries::tangent(out, i),
+        Line::Year => years::twentieth(out, i),
+        Line::Joint => equations::joint(out, i),
+        Line::Arc => equations::arc(out, i),
+        Line::Spread => equations::spread(out, i),
+        Line::Place => places::eleventh(out, n, i),
+        Line::Term => terms::of_twentieth(out, i),
     }
 }
 
 // The lines of 0 to below `count`; n is the year, where the line asks for one.
-pub(crate) fn each(what: Line, n: i64, count: u64)
+pub(crate) fn each(out: &mut impl Write, what: Line, n: i64, count: u64) -> io::Result<()>
     requires { count ≤ 5_000 }
 {
     for i in 0..count {
-        print_line(what, n, i);
+        print_line(out, what, n, i)?;
     }
+    Ok(())
 }
 
 // A count less another, for lines that start below 0.

@@ -3,30 +3,39 @@ ghost use Rattle.std.specs.Prelude.{◌≤◌};
 
 use crate::terms::values;
 use console::{number, refused, signed, text};
+use std::io;
+use std::io::Write;
 use sun::{Listed, TermRecord};
 
-fn records(at: [TermRecord; 26]) {
+fn records(out: &mut impl Write, at: [TermRecord; 26]) -> io::Result<()> {
     for k in 0..26usize {
-        values(at[k]);
+        values(out, at[k])?;
     }
+    Ok(())
 }
 
-fn shown(n: i64, room: usize, answer: Listed, at: [TermRecord; 26]) {
-    text(b"list ");
-    signed(n);
-    text(b" in ");
-    number(room as u64);
-    text(b": ");
+fn shown(
+    out: &mut impl Write,
+    n: i64,
+    room: usize,
+    answer: Listed,
+    at: [TermRecord; 26],
+) -> io::Result<()> {
+    text(out, b"list ")?;
+    signed(out, n)?;
+    text(out, b" in ")?;
+    number(out, room as u64)?;
+    text(out, b": ")?;
     match answer {
-        Listed::All => text(b"all"),
-        Listed::Refused(refusal) => refused(refusal),
+        Listed::All => text(out, b"all")?,
+        Listed::Refused(refusal) => refused(out, refusal)?,
     }
-    text(b"\n");
-    records(at);
+    text(out, b"\n")?;
+    records(out, at)
 }
 
 // The list is the first `room` of 26 records, each 7 before.
-fn list(n: i64, room: usize)
+fn list(out: &mut impl Write, n: i64, room: usize) -> io::Result<()>
     requires { room ≤ 26 }
 {
     let seven = TermRecord {
@@ -36,17 +45,17 @@ fn list(n: i64, room: usize)
     };
     let mut at = [seven; 26];
     let answer = lists::fill_terms(&mut at[..room], n);
-    shown(n, room, answer, at);
+    shown(out, n, room, answer, at)
 }
 
-pub(crate) fn lines() {
-    list(-2_001, 24);
-    list(-2_000, 24);
-    list(-1_337, 26);
-    list(-1, 25);
-    list(0, 24);
-    list(0, 23);
-    list(0, 0);
-    list(2_000, 26);
-    list(2_001, 23);
+pub(crate) fn lines(out: &mut impl Write) -> io::Result<()> {
+    list(out, -2_001, 24)?;
+    list(out, -2_000, 24)?;
+    list(out, -1_337, 26)?;
+    list(out, -1, 25)?;
+    list(out, 0, 24)?;
+    list(out, 0, 23)?;
+    list(out, 0, 0)?;
+    list(out, 2_000, 26)?;
+    list(out, 2_001, 23)
 }

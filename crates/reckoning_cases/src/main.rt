@@ -1,6 +1,7 @@
 // Prints what document 01 has run and compared: every table entry, the figures of sources 002, 003 and
 // 004, and a spread of years, anomalies, days, terms and local times with their limits. tests/expected.py makes stdout.
 #![tactic(auto)]
+
 mod answers;
 mod each;
 mod entries;
@@ -11,12 +12,17 @@ mod places;
 mod terms;
 mod years;
 
-fn main() {
-    entries::lines();
-    years::lines();
-    equations::lines();
-    places::lines();
-    terms::lines();
-    filled::lines();
-    local_times::lines();
+use std::io;
+use std::io::{BufWriter, Write};
+
+fn main(rt: HostRuntime) -> io::Result<()> {
+    let mut out = BufWriter::new(rt.alloc(), rt.stdout())?;
+    entries::lines(&mut out)?;
+    years::lines(&mut out)?;
+    equations::lines(&mut out)?;
+    places::lines(&mut out)?;
+    terms::lines(&mut out)?;
+    filled::lines(&mut out)?;
+    local_times::lines(&mut out)?;
+    out.flush()
 }

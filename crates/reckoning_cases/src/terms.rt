@@ -3,83 +3,85 @@ ghost use Rattle.std.specs.Prelude.{◌≤◌};
 
 use crate::each::{Line, each, less};
 use console::{number, refused, signed, text};
+use std::io;
+use std::io::Write;
 use sun::{Crossing, CrossingAnswer, TermAnswer, TermRecord};
 use units::Refusal;
 
-fn head(name: &[u8], n: i64, k: u64) {
-    text(name);
-    signed(n);
-    text(b" ");
-    number(k);
-    text(b": ");
+fn head(out: &mut impl Write, name: &[u8], n: i64, k: u64) -> io::Result<()> {
+    text(out, name)?;
+    signed(out, n)?;
+    text(out, b" ")?;
+    number(out, k)?;
+    text(out, b": ")
 }
 
-pub(crate) fn values(term: TermRecord) {
-    text(b"day ");
-    signed(term.day);
-    text(b" minute ");
-    number(term.minute);
-    text(b" count ");
-    number(term.count);
-    text(b"\n");
+pub(crate) fn values(out: &mut impl Write, term: TermRecord) -> io::Result<()> {
+    text(out, b"day ")?;
+    signed(out, term.day)?;
+    text(out, b" minute ")?;
+    number(out, term.minute)?;
+    text(out, b" count ")?;
+    number(out, term.count)?;
+    text(out, b"\n")
 }
 
-fn crossing(found: Crossing) {
-    text(b"day ");
-    signed(found.day);
-    text(b" minute ");
-    number(found.minute);
-    text(b"\n");
+fn crossing(out: &mut impl Write, found: Crossing) -> io::Result<()> {
+    text(out, b"day ")?;
+    signed(out, found.day)?;
+    text(out, b" minute ")?;
+    number(out, found.minute)?;
+    text(out, b"\n")
 }
 
-fn no_answer(refusal: Refusal) {
-    refused(refusal);
-    text(b"\n");
+fn no_answer(out: &mut impl Write, refusal: Refusal) -> io::Result<()> {
+    refused(out, refusal)?;
+    text(out, b"\n")
 }
 
-fn term_line(n: i64, k: u64) {
-    head(b"term ", n, k);
+fn term_line(out: &mut impl Write, n: i64, k: u64) -> io::Result<()> {
+    head(out, b"term ", n, k)?;
     match sun::term_of(n, k) {
-        TermAnswer::Is(term) => values(term),
-        TermAnswer::Refused(refusal) => no_answer(refusal),
+        TermAnswer::Is(term) => values(out, term),
+        TermAnswer::Refused(refusal) => no_answer(out, refusal),
     }
 }
 
-fn crossing_line(n: i64, k: u64) {
-    head(b"crossing ", n, k);
+fn crossing_line(out: &mut impl Write, n: i64, k: u64) -> io::Result<()> {
+    head(out, b"crossing ", n, k)?;
     match sun::crossing_of(n, k) {
-        CrossingAnswer::Is(found) => crossing(found),
-        CrossingAnswer::Refused(refusal) => no_answer(refusal),
+        CrossingAnswer::Is(found) => crossing(out, found),
+        CrossingAnswer::Refused(refusal) => no_answer(out, refusal),
     }
 }
 
-fn line(n: i64, k: u64) {
-    term_line(n, k);
-    crossing_line(n, k);
+fn line(out: &mut impl Write, n: i64, k: u64) -> io::Result<()> {
+    term_line(out, n, k)?;
+    crossing_line(out, n, k)
 }
 
 // The 24 terms of every twentieth year from -2,000 on, one after the other.
-pub(crate) fn of_twentieth(i: u64)
+pub(crate) fn of_twentieth(out: &mut impl Write, i: u64) -> io::Result<()>
     requires { i ≤ 5_000 }
 {
-    line(less(20 * (i / 24), 2_000), i % 24);
+    line(out, less(20 * (i / 24), 2_000), i % 24)
 }
 
-pub(crate) fn lines() {
-    each(Line::Term, 0, 24 * 201);
+pub(crate) fn lines(out: &mut impl Write) -> io::Result<()> {
+    each(out, Line::Term, 0, 24 * 201)?;
     // Carried to the next day, and next to half a minute.
-    line(-255, 0);
-    line(-1_556, 22);
-    line(-104, 5);
-    line(527, 23);
-    line(-2_001, 0);
-    line(2_001, 23);
-    line(-2_001, 24);
-    line(2_001, 24);
-    line(0, 24);
-    line(0, 18_446_744_073_709_551_615);
-    line(-2_000, 24);
-    line(2_000, 24);
-    line(-9_223_372_036_854_775_808, 0);
-    line(9_223_372_036_854_775_807, 24);
+    line(out, -255, 0)?;
+    line(out, -1_556, 22)?;
+    line(out, -104, 5)?;
+    line(out, 527, 23)?;
+    line(out, -2_001, 0)?;
+    line(out, 2_001, 23)?;
+    line(out, -2_001, 24)?;
+    line(out, 2_001, 24)?;
+    line(out, 0, 24)?;
+    line(out, 0, 18_446_744_073_709_551_615)?;
+    line(out, -2_000, 24)?;
+    line(out, 2_000, 24)?;
+    line(out, -9_223_372_036_854_775_808, 0)?;
+    line(out, 9_223_372_036_854_775_807, 24)
 }
