@@ -10,9 +10,9 @@ from pathlib import Path
 
 CRATES = Path(__file__).resolve().parent.parent / "crates"
 
-# What is read or written is no argument and no answer, so no contract can speak of it, and two answers to one call may differ. These
-# libraries do nothing else, which their use of std's input and output shows; their functions may promise nothing. They too may ask nothing.
-READS_AND_WRITES = {"console"}
+# A read or a write may fail, so two answers to one call may differ. These libraries do nothing else, which their use of std's input and
+# output shows. Of the functions named here no contract can speak, since what they write is nowhere held. They too may ask nothing.
+READS_AND_WRITES = {"console": {"output.tell"}}
 
 
 def without_comments_and_literals(source):
@@ -91,16 +91,17 @@ def reads_or_writes(crate):
 
 
 def complaints(crate, functions):
-    unspoken = crate.name in READS_AND_WRITES
-    if unspoken and not reads_or_writes(crate):
+    may_fail = crate.name in READS_AND_WRITES
+    unspoken = READS_AND_WRITES.get(crate.name, set())
+    if may_fail and not reads_or_writes(crate):
         yield f"{crate.name} neither reads nor writes, and is excepted"
     held = set(held_functions(crate))
     for place, clauses in functions:
         if "requires" in clauses:
             yield f"{crate.name}: {place} asks something of its caller"
-        if "ensures" not in clauses and not unspoken:
-            yield f"{crate.name}: {place} promises nothing"
-        if place not in held and not unspoken:
+        if ("ensures" in clauses) == (place in unspoken):
+            yield f"{crate.name}: {place} " + ("promises something, and is excepted" if place in unspoken else "promises nothing")
+        if place not in held and not may_fail:
             yield f"{crate.name}: {place} has no theorem .._held"
 
 
