@@ -1,7 +1,7 @@
 """Lists what the library crates export, and fails if a public function promises nothing, asks something of its caller, or is not
 held fast: has no theorem `.._held`, which says of its generated contract that any two answers it allows are equal.
 
-    python3 tests/promises.py   from the sources alone: nothing is stored here but the exception below
+    python3 tests/promises.py   from the sources alone: nothing is stored here but the exceptions below
 """
 
 import re
@@ -10,9 +10,13 @@ from pathlib import Path
 
 CRATES = Path(__file__).resolve().parent.parent / "crates"
 
-# A read or a write may fail, so two answers to one call may differ. These libraries do nothing else, which their use of std's input and
-# output shows. Of the functions named here no contract can speak, since what they write is nowhere held. They too may ask nothing.
-READS_AND_WRITES = {"console": {"output.tell"}}
+# What a reader gives and whether a writer takes is their own, so two answers to one call may differ. These libraries do nothing but read
+# and write, which their use of std's input and output shows; their functions have no such theorem. They promise all the same which bytes
+# are read or written, and ask nothing.
+READS_AND_WRITES = {"console"}
+
+# No contract can speak of standard error.
+MAY_PROMISE_NOTHING = {"console.output.tell"}
 
 
 def without_comments_and_literals(source):
@@ -91,17 +95,16 @@ def reads_or_writes(crate):
 
 
 def complaints(crate, functions):
-    may_fail = crate.name in READS_AND_WRITES
-    unspoken = READS_AND_WRITES.get(crate.name, set())
-    if may_fail and not reads_or_writes(crate):
+    is_excepted = crate.name in READS_AND_WRITES
+    if is_excepted and not reads_or_writes(crate):
         yield f"{crate.name} neither reads nor writes, and is excepted"
     held = set(held_functions(crate))
     for place, clauses in functions:
         if "requires" in clauses:
             yield f"{crate.name}: {place} asks something of its caller"
-        if ("ensures" in clauses) == (place in unspoken):
-            yield f"{crate.name}: {place} " + ("promises something, and is excepted" if place in unspoken else "promises nothing")
-        if place not in held and not may_fail:
+        if ("ensures" in clauses) == (f"{crate.name}.{place}" in MAY_PROMISE_NOTHING):
+            yield f"{crate.name}: {place} promises {'something, and is excepted' if 'ensures' in clauses else 'nothing'}"
+        if place not in held and not is_excepted:
             yield f"{crate.name}: {place} has no theorem .._held"
 
 
