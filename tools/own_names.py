@@ -95,7 +95,8 @@ def foreign(lines):
 def signs(comment):
     comment = re.sub(r"(?<=\d)'''", "‴", comment)
     comment = re.sub(r"(?<=\d)''", "″", comment)
-    return re.sub(r"(?<=\d)'(?!\w)", "′", comment)
+    comment = comment.replace("writes ' and °", "writes ′ and °")
+    return re.sub(r"(?<=\d)'(?![A-Za-z_])", "′", comment)
 
 
 def turned(text, to, skip):

@@ -15,7 +15,7 @@ use Rattle.reasoning.specs.Answer.{Answer, value, refused, refusing}
 abbrev pub second : ℕ
 second = 60_000_000
 
--- sixty seconds, and sixty minutes, as the document writes ' and °
+-- sixty seconds, and sixty minutes, as the document writes ′ and °
 abbrev pub minute : ℕ
 minute = 60 * second
 
@@ -53,7 +53,7 @@ perigee_yearly = 3_669_999_600
 abbrev pub perigee_daily : ℕ
 perigee_daily = 10_048_140
 
--- perigee at epoch, 7°10'11″10‴
+-- perigee at epoch, 7°10′11″10‴
 abbrev pub perigee_epoch : ℕ
 perigee_epoch = 1_548_670_000_000
 

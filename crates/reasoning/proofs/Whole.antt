@@ -1,5 +1,5 @@
 -- Signed numbers read as one number less another, so that `omega` proves facts about them: `Is z a b` says that z is a less b.
--- An expression is read by is_pos, is-neg, is-add, is-minus, is-times; `same`, `lt_is`, `le_is` conclude from two readings.
+-- An expression is read by is_pos, is_neg, is_add, is_minus, is_times; `same`, `lt_is`, `le_is` conclude from two readings.
 -- Assumes nothing.
 use mathlib.Core.Path.{◌≡◌, refl, ap}
 use mathlib.Core.Bool.{Bool, true, false, not, cond}
