@@ -13,16 +13,14 @@ mod terms;
 mod years;
 
 use std::io;
-use std::io::{BufWriter, Write};
 
 fn main(rt: HostRuntime) -> io::Result<()> {
-    let mut out = BufWriter::new(rt.alloc(), rt.stdout())?;
+    let mut out = rt.stdout();
     entries::lines(&mut out)?;
     years::lines(&mut out)?;
     equations::lines(&mut out)?;
     places::lines(&mut out)?;
     terms::lines(&mut out)?;
     filled::lines(&mut out)?;
-    local_times::lines(&mut out)?;
-    out.flush()
+    local_times::lines(&mut out)
 }
