@@ -6,7 +6,7 @@ ghost use Rattle.book.specs.Reader.{opened, PartIs, HandsOn, StepIs, bytes_from,
 use crate::year::{Next, next_at};
 
 // The book, the byte to go on from, and the last year as the least N + 2,000 that may follow it: 0 before the first.
-#[derive(Drop)]
+#[derive(Clone, Copy)]
 pub struct Reader<'a> {
     book: &'a [u8],
     at: usize,
@@ -14,14 +14,14 @@ pub struct Reader<'a> {
 }
 
 // A year's part of the book, and what was found; the part is empty where that is no year.
-#[derive(Drop)]
+#[derive(Clone, Copy)]
 pub struct Handed<'a> {
     pub part: &'a [u8],
     pub what: Next,
 }
 
 // What is found from a byte on, and a reader's two numbers afterwards.
-#[derive(Drop)]
+#[derive(Clone, Copy)]
 struct Step {
     what: Next,
     to: usize,

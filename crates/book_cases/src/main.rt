@@ -3,7 +3,7 @@
 // and byte. tests/expected.py makes stdin and stdout.
 #![tactic(auto)]
 
-ghost use Rattle.std.specs.Prelude.{◌≤◌, IfOk, length};
+ghost use Rattle.std.specs.Prelude.{◌≤◌, length};
 
 mod bytes;
 mod corrected;
@@ -14,27 +14,33 @@ mod refusals;
 mod written;
 
 use std::io;
-use std::io::Read;
+use std::io::{Read, Write};
 
-// Fills the buffer from its start, as far as the input goes: how many bytes were read.
-fn read_full(input: &mut impl Read, buffer: &mut [u8]) -> io::Result<usize>
-    ensures { IfOk result (λ n. n ≤ length buffer.new) }
+// Fills the buffer from its start, as far as the input goes or a read does not fail: how many bytes were read.
+fn read_full(input: &mut impl Read, buffer: &mut [u8]) -> usize
+    ensures { result ≤ length buffer.new }
 {
     let mut done = 0;
     while done < buffer.len() {
-        let n = input.read(&mut buffer[done..])?;
+        let Ok(n) = input.read(&mut buffer[done..]) else {
+            break;
+        };
         if n == 0 {
             break;
         }
         done += n;
     }
-    Ok(done)
+    done
 }
 
-fn main(rt: HostRuntime) -> io::Result<()> {
-    let mut out = rt.stdout();
-    written::lines(&mut out)?;
-    let mut input = [0u8; 262_144];
-    let n = read_full(&mut rt.stdin(), &mut input)?;
-    damaged::lines(&mut out, &input[..n])
+fn lines(input: &mut impl Read, out: &mut impl Write) -> io::Result<()> {
+    written::lines(out)?;
+    let mut bytes = [0u8; 262_144];
+    let n = read_full(input, &mut bytes);
+    damaged::lines(out, &bytes[..n])
+}
+
+// What cannot be written is missing from the output, and so is what was to follow.
+fn main(rt: HostRuntime) {
+    let _ = lines(&mut rt.stdin(), &mut rt.stdout());
 }

@@ -54,7 +54,7 @@ pub fn refusal_line<W: Write>(out: &mut W, refusal: Refusal) -> io::Result<()>
     writeln!(out, "refused {n}")
 }
 
-// A line on standard error. Where that cannot be written, nobody can be told.
-pub fn tell(rt: &impl Eprint, words: &str) {
-    let _ = rt.eprintln(words);
+// On standard error. What that does not take, nobody can be told.
+pub fn tell<W: Write>(to: &mut W, words: &[u8]) {
+    let _ = to.write_all(words);
 }

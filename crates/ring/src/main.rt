@@ -81,9 +81,9 @@ fn refuse(rt: &HostRuntime, refusal: Refusal) {
 fn main(rt: HostRuntime) {
     match answer_first_line(&mut rt.stdin(), &mut rt.stdout()) {
         Ok(()) => {}
-        Err(Failed::Read) => tell(&rt, "the line could not be read"),
+        Err(Failed::Read) => tell(&mut rt.stderr(), b"the line could not be read\n"),
         Err(Failed::Refused(refusal)) => refuse(&rt, refusal),
-        Err(Failed::Draw) => tell(&rt, "the picture could not be drawn"),
-        Err(Failed::Write) => tell(&rt, "the picture could not be written"),
+        Err(Failed::Draw) => tell(&mut rt.stderr(), b"the picture could not be drawn\n"),
+        Err(Failed::Write) => tell(&mut rt.stderr(), b"the picture could not be written\n"),
     }
 }

@@ -16,6 +16,7 @@ use std::io::{Read, Write};
 enum Failed {
     Read,
     Write,
+    Unended,
 }
 
 fn put<W: Write>(out: &mut W, answers: &[u8]) -> Result<(), Failed>
@@ -76,13 +77,16 @@ fn answer_all<R: Read, W: Write>(input: &mut R, out: &mut W) -> Result<(), Faile
             None => return Ok(()),
         }
     }
-    Err(Failed::Read)
+    Err(Failed::Unended)
 }
 
 fn main(rt: HostRuntime) {
     match answer_all(&mut rt.stdin(), &mut rt.stdout()) {
-        Ok(()) => {}
-        Err(Failed::Read) => console::tell(&rt, "the input could not be read"),
-        Err(Failed::Write) => console::tell(&rt, "the answers could not be written"),
+        Ok(()) | Err(Failed::Unended) => {}
+        Err(Failed::Read) => console::tell(&mut rt.stderr(), b"the input could not be read\n"),
+        Err(Failed::Write) => console::tell(
+            &mut rt.stderr(),
+            b"the answers could not be written\n",
+        ),
     }
 }

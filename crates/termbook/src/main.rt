@@ -56,7 +56,7 @@ fn answer_first_line<R: Read, W: Write>(input: &mut R, out: &mut W) -> Result<()
 fn main(rt: HostRuntime) {
     match answer_first_line(&mut rt.stdin(), &mut rt.stdout()) {
         Ok(()) => {}
-        Err(Failed::Read) => console::tell(&rt, "the line could not be read"),
-        Err(Failed::Write) => console::tell(&rt, "the answer could not be written"),
+        Err(Failed::Read) => console::tell(&mut rt.stderr(), b"the line could not be read\n"),
+        Err(Failed::Write) => console::tell(&mut rt.stderr(), b"the answer could not be written\n"),
     }
 }
