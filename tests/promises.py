@@ -15,7 +15,7 @@ CRATES = Path(__file__).resolve().parent.parent / "crates"
 # are read or written, and ask nothing.
 READS_AND_WRITES = {"console"}
 
-# No contract can speak of standard error.
+# It answers nothing, and what it is lent may take the words or not.
 MAY_PROMISE_NOTHING = {"console.output.tell"}
 
 
