@@ -1,8 +1,7 @@
 -- A year's terms as columns of numbers. Assumes nothing.
-use Rattle.std.specs.Prelude.{◌≡◌, List, map, ℕ, ℤ, pos, get_or}
+use Rattle.std.specs.Prelude.{List, map, ℕ, ℤ, pos, get_or}
 use Rattle.reasoning.specs.InOrder.{in_order}
 use Rattle.law.specs.Document.{TermValues}
-use Rattle.bhromilun.specs.Told.{Lent}
 
 abbrev pub days_of : List TermValues → List ℤ
 days_of terms = map (λ v. v.day_of_term) terms
@@ -12,12 +11,6 @@ minutes_of terms = map (λ v. v.minute_of_term) terms
 
 abbrev pub counts_of : List TermValues → List ℕ
 counts_of terms = map (λ v. v.count_of_term) terms
-
--- what three arrays hold once the terms' columns are stored there
-pub record StoredColumns (terms : List TermValues) (days : Lent (List ℤ)) (minutes counts : Lent (List ℕ)) : Type 0 where
-  pub term_days : days.after ≡ days_of terms
-  pub term_minutes : minutes.after ≡ minutes_of terms
-  pub term_counts : counts.after ≡ counts_of terms
 
 -- term k of two columns, its count 0
 abbrev pub term_given : List ℤ → List ℕ → ℕ → TermValues

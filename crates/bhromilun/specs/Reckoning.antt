@@ -1,22 +1,9 @@
 -- What each call of the reckoning leaves, by document 01's answer: a refusal stores nothing. Assumes nothing.
-use Rattle.std.specs.Prelude.{◌≡◌, List, map, ℕ, ℤ}
-use Rattle.reasoning.specs.Answer.{Answer, value, refused, refusal_in}
+use Rattle.std.specs.Prelude.{◌≡◌, List, ℕ, ℤ}
+use Rattle.reasoning.specs.Answer.{Answer, refusal_in}
 use Rattle.law.specs.Document.{YearValues, TermValues, CrossingValues, LocalValues}
-use Rattle.units.specs.Said.{number_of}
-use Rattle.sun.specs.declared.worked_year.Listed.{Listed}
-use Rattle.sun.specs.declared.worked_year.Listed.TheVariants as listed
-use Rattle.sun.specs.declared.worked_year.WorkedYear.{WorkedYear}
-use Rattle.sun.specs.Said.{values_of_term}
 use Rattle.bhromilun.specs.Told.{Lent, Stored}
 use Rattle.bhromilun.specs.Columns.{days_of, minutes_of, counts_of}
-
--- a year's terms worked out by value, or the refusal
-abbrev pub said_listed : Listed → List TermValues → Answer (List TermValues)
-said_listed listed.All terms = value terms
-said_listed (listed.Refused r) terms = refused (number_of r)
-
-abbrev pub said_worked : WorkedYear → Answer (List TermValues)
-said_worked year = said_listed year.answer (map values_of_term year.terms)
 
 pub record ToldYear (answer : Answer YearValues) (r : ℕ) (day_name fraction mansion : Lent ℕ) : Type 0 where
   pub number : r ≡ refusal_in answer

@@ -1,47 +1,36 @@
 // A year's 24 terms as records, and as columns of numbers: a record has no fixed form in C.
 ghost use Rattle.std.specs.Prelude.{map, ◌≡◌};
 ghost use Rattle.sun.specs.Said.{values_of_term};
-ghost use Rattle.bhromilun.specs.Told.{lent};
-ghost use Rattle.bhromilun.specs.Columns.{terms_given, StoredColumns};
+ghost use Rattle.bhromilun.specs.Columns.{days_of, minutes_of, counts_of, terms_given};
 
-use sun::{TermRecord, ZERO_RECORD};
+use std::array;
+use sun::TermRecord;
 
-pub(crate) fn store_columns(
-    terms: [TermRecord; 24],
-    days: &mut [i64; 24],
-    minutes: &mut [u64; 24],
-    counts: &mut [u64; 24],
-)
-    ensures { StoredColumns (map values_of_term terms) (lent days) (lent minutes) (lent counts) }
+pub(crate) fn days_of(terms: &[TermRecord; 24]) -> [i64; 24]
+    ensures { result ≡ days_of (map values_of_term terms.now) }
 {
-    *days = [0i64; 24];
-    *minutes = [0u64; 24];
-    *counts = [0u64; 24];
-    let mut k: usize = 0;
-    while k < 24 {
-        let term = terms[k];
-        let day = term.day;
-        days[k] = day;
-        minutes[k] = term.minute;
-        counts[k] = term.count;
-        k += 1;
-    }
+    array::from_fn(|k| terms[k].day)
+}
+
+pub(crate) fn minutes_of(terms: &[TermRecord; 24]) -> [u64; 24]
+    ensures { result ≡ minutes_of (map values_of_term terms.now) }
+{
+    array::from_fn(|k| terms[k].minute)
+}
+
+pub(crate) fn counts_of(terms: &[TermRecord; 24]) -> [u64; 24]
+    ensures { result ≡ counts_of (map values_of_term terms.now) }
+{
+    array::from_fn(|k| terms[k].count)
 }
 
 // Each count is 0.
 pub(crate) fn terms_from(days: &[i64; 24], minutes: &[u64; 24]) -> [TermRecord; 24]
     ensures { map values_of_term result ≡ terms_given days.now minutes.now }
 {
-    let mut terms = [ZERO_RECORD; 24];
-    let mut i: usize = 0;
-    while i < 24 {
-        let term = TermRecord {
-            day: days[i],
-            minute: minutes[i],
-            count: 0,
-        };
-        terms[i] = term;
-        i += 1;
-    }
-    terms
+    array::from_fn(|k| TermRecord {
+        day: days[k],
+        minute: minutes[k],
+        count: 0,
+    })
 }

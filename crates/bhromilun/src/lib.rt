@@ -2,6 +2,7 @@
 // through its last parameters; what an answer does not store stays as it was. No function has a `requires`.
 #![tactic(auto)]
 
+mod answer;
 mod books;
 mod columns;
 mod reckoning;

@@ -1,13 +1,11 @@
 // The year, places, terms and local time.
 ghost use Rattle.law.specs.Document.{epicycles, year_answer, equation_answer, mean_answer, true_answer, term_answer, crossing_answer, terms_answer, local_answer};
-ghost use Rattle.units.specs.Said.{said_number};
 ghost use Rattle.bhromilun.specs.Told.{Told, lent};
 ghost use Rattle.bhromilun.specs.Reckoning.{ToldYear, ToldTerm, ToldCrossing, ToldTerms, ToldLocal};
 
-use crate::columns::store_columns;
-use local::LocalAnswer;
-use sun::{CrossingAnswer, Listed, TermAnswer, YearAnswer};
-use units::{ArcSeconds, Number, Signed};
+use crate::answer::tell;
+use crate::columns::{counts_of, days_of, minutes_of};
+use units::ArcSeconds;
 
 // The mean solstice of a year: its day name, its fraction of a day in thousand-millionths, and the duty mansion.
 #[unsafe(no_mangle)]
@@ -19,15 +17,14 @@ pub extern "C" fn bhromilun_year(
 ) -> u64
     ensures { ToldYear (year_answer n) result (lent day_name) (lent fraction) (lent mansion) }
 {
-    match sun::year_of(n) {
-        YearAnswer::Is(year) => {
+    tell(
+        sun::year_of(n),
+        &mut |year| {
             *day_name = year.day_name;
             *fraction = year.fraction;
             *mansion = year.mansion;
-            0
-        }
-        YearAnswer::Refused(refusal) => units::refusal_number(refusal),
-    }
+        },
+    )
 }
 
 // The equation of centre at an anomaly, in units.
@@ -35,26 +32,7 @@ pub extern "C" fn bhromilun_year(
 pub extern "C" fn bhromilun_equation(anomaly: i64, equation: &mut i64) -> u64
     ensures { Told (equation_answer epicycles anomaly) result (lent equation) }
 {
-    match sun::equation_at(anomaly) {
-        Signed::Is(units) => {
-            *equation = units;
-            0
-        }
-        Signed::Refused(refusal) => units::refusal_number(refusal),
-    }
-}
-
-// A place, or the refusal's number and nothing stored.
-fn tell_place(answer: Number, place: &mut u64) -> u64
-    ensures { Told (said_number answer) result (lent place) }
-{
-    match answer {
-        Number::Is(units) => {
-            *place = units;
-            0
-        }
-        Number::Refused(refusal) => units::refusal_number(refusal),
-    }
+    tell(sun::equation_at(anomaly), &mut |units| *equation = units)
 }
 
 // The mean place at a day's midnight, in units, in the circle.
@@ -62,7 +40,7 @@ fn tell_place(answer: Number, place: &mut u64) -> u64
 pub extern "C" fn bhromilun_mean_place(n: i64, day: i64, place: &mut u64) -> u64
     ensures { Told (mean_answer n day) result (lent place) }
 {
-    tell_place(sun::mean_place(n, day), place)
+    tell(sun::mean_place(n, day), &mut |units| *place = units)
 }
 
 // The true place at a day's midnight, in units, in the circle.
@@ -70,7 +48,7 @@ pub extern "C" fn bhromilun_mean_place(n: i64, day: i64, place: &mut u64) -> u64
 pub extern "C" fn bhromilun_true_place(n: i64, day: i64, place: &mut u64) -> u64
     ensures { Told (true_answer epicycles n day) result (lent place) }
 {
-    tell_place(sun::true_place(n, day), place)
+    tell(sun::true_place(n, day), &mut |units| *place = units)
 }
 
 // The day and minute of a year's term k as they are printed, and the midnights visited to find them.
@@ -84,16 +62,14 @@ pub extern "C" fn bhromilun_term(
 ) -> u64
     ensures { ToldTerm (term_answer epicycles n k) result (lent day) (lent minute) (lent count) }
 {
-    match sun::term_of(n, k) {
-        TermAnswer::Is(term) => {
-            let found = term.day;
-            *day = found;
+    tell(
+        sun::term_of(n, k),
+        &mut |term| {
+            *day = term.day;
             *minute = term.minute;
             *count = term.count;
-            0
-        }
-        TermAnswer::Refused(refusal) => units::refusal_number(refusal),
-    }
+        },
+    )
 }
 
 // The day and minute of the sun's crossing of term k's mark, the minute cut off and not rounded.
@@ -101,15 +77,13 @@ pub extern "C" fn bhromilun_term(
 pub extern "C" fn bhromilun_crossing(n: i64, k: u64, day: &mut i64, minute: &mut u64) -> u64
     ensures { ToldCrossing (crossing_answer epicycles n k) result (lent day) (lent minute) }
 {
-    match sun::crossing_of(n, k) {
-        CrossingAnswer::Is(crossing) => {
-            let found = crossing.day;
-            *day = found;
+    tell(
+        sun::crossing_of(n, k),
+        &mut |crossing| {
+            *day = crossing.day;
             *minute = crossing.minute;
-            0
-        }
-        CrossingAnswer::Refused(refusal) => units::refusal_number(refusal),
-    }
+        },
+    )
 }
 
 // The year call: the printed day and minute of each of a year's 24 terms, and the midnights visited to find them.
@@ -122,16 +96,14 @@ pub extern "C" fn bhromilun_terms(
 ) -> u64
     ensures { ToldTerms (terms_answer epicycles n) result (lent days) (lent minutes) (lent counts) }
 {
-    let worked = sun::work_year(n);
-    let answer = worked.answer;
-    match answer {
-        Listed::All => {
-            let terms = worked.terms;
-            store_columns(terms, days, minutes, counts);
-            0
-        }
-        Listed::Refused(refusal) => units::refusal_number(refusal),
-    }
+    tell(
+        sun::work_year(n),
+        &mut |worked| {
+            *days = days_of(&worked.terms);
+            *minutes = minutes_of(&worked.terms);
+            *counts = counts_of(&worked.terms);
+        },
+    )
 }
 
 // Day and minute at a place, by its longitude from the capital in seconds of arc, east positive.
@@ -145,13 +117,11 @@ pub extern "C" fn bhromilun_local_time(
 ) -> u64
     ensures { ToldLocal (local_answer day minute longitude) result (lent day_there) (lent minute_there) }
 {
-    match local::local_time(day, minute, ArcSeconds::of(longitude)) {
-        LocalAnswer::Is(time) => {
-            let reached = time.day;
-            *day_there = reached;
+    tell(
+        local::local_time(day, minute, ArcSeconds::of(longitude)),
+        &mut |time| {
+            *day_there = time.day;
             *minute_there = time.minute;
-            0
-        }
-        LocalAnswer::Refused(refusal) => units::refusal_number(refusal),
-    }
+        },
+    )
 }

@@ -8,7 +8,8 @@ use lib.Dec.{leb}
 use lib.ListN.{length, drop, length-drop}
 use lib.Seq.{drop-drop}
 use borrow.Author.Tests.{leb-true, leb-false, le-leb, lt-leb}
-use Rattle.law.specs.Book.{Checked, sound, faulty, Next, next_year, book_end, stop, year_from, year_size, least_after, and_then, years_from, book_from, step_of, next_at}
+use Rattle.law.specs.Book.{two_at, Checked, sound, faulty, Next, next_year, book_end, stop, year_from, year_size, least_after, and_then, years_from, book_from, step_of, next_at}
+use Rattle.book.proofs.BytesLeft.{two_drop}
 use Rattle.book.proofs.YearSteps.{SoundYear, year_sound, year_end_lem, year_room}
 
 -- ---- a reader's call
@@ -36,6 +37,16 @@ module _ (s : List ℕ) (at least : ℕ) where
   pub next_in : at < length s → {c : Checked} → c ≡ year_from least at (drop at s) → step_of c (least_after (drop at s)) ≡ next_at s at least
   unfolding next_at
   next_in h q = rw (lt-leb (length s) at h, q)
+
+  -- what the check of a year says, of the call there
+  pub none_there : length s ≤ at → book_end ≡ next_at s at least
+  none_there h = sym (next_end h)
+
+  pub year_there : (e : ℕ) → at < length s → sound e ≡ year_from least at (drop at s) → next_year e (two_at s (at + 1) + 1) ≡ next_at s at least
+  year_there e h q = rw (← two_drop s at 1) (next_in h q)
+
+  pub fault_there : (n p : ℕ) → at < length s → faulty n p ≡ year_from least at (drop at s) → stop n p ≡ next_at s at least
+  fault_there n p h q = next_in h q
 
   pub end_reached : next_at s at least ≡ book_end → length s ≤ at
   unfolding next_at
@@ -125,6 +136,19 @@ module _ (s : List ℕ) (at least : ℕ) where
       let f = fault_found s at least n p (sym q) in
       sym (book_stop least at (drop at s) n p (simp length-drop (omega (arith, f.0))) f.1)
 
+  -- the same, in the words of a call's contract
+  pub year_within : (e l : ℕ) → next_year e l ≡ next_at s at least → (at < e) × (e ≤ length s)
+  year_within e l q = let m = moved e l (sym q) in (omega (arith, m.to), m.room)
+
+  pub book_goes_on : (e l : ℕ) → next_year e l ≡ next_at s at least → book_from l e (drop e s) ≡ book_from least at (drop at s)
+  book_goes_on e l q = book_next (next_year e l) q
+
+  pub book_ends : book_end ≡ next_at s at least → sound at ≡ book_from least at (drop at s)
+  book_ends q = book_next book_end q
+
+  pub book_stops : (n p : ℕ) → stop n p ≡ next_at s at least → faulty n p ≡ book_from least at (drop at s)
+  book_stops n p q = book_next (stop n p) q
+
 -- ---- a sound book
 
 abbrev pub is_sound : Checked → Bool
@@ -139,3 +163,8 @@ pub and_sound : (c d : Checked) → is_sound (and_then c d) ≡ true → (c ≡ 
 unfolding end_of
 and_sound (sound e) d h = (refl, h)
 and_sound (faulty n p) d h = absurd (let z : ◌≡◌ {A = ℕ} 0 1 = cc in omega arith)
+
+-- what the code of a call needs, and of a book gone through by calls
+pub ruleset calls = (none_there, year_there, fault_there)
+
+pub ruleset book_steps = (year_within, book_goes_on, book_ends, book_stops)

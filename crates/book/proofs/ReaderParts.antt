@@ -16,13 +16,13 @@ use Rattle.book.proofs.ReaderStays.{after_calls, went_on, is_year, stays_empty}
 
 -- call k hands out part k of those that so many calls hand out
 abbrev pub HandsOut : ℕ → ℕ → Reader → Type 0
-HandsOut k calls r = hands_out (after_calls k r) ≡ get_or (parts_from calls r.book.now r.at r.least) k []
+HandsOut k calls r = hands_out (after_calls k r) ≡ get_or (parts_from calls r.book.now r.last.end r.last.least) k []
 
 module _ (r : Reader) (calls : ℕ) where
   abbrev parts_after : Next → List (List ℕ)
-  parts_after found = hand_out found r.book.now r.at (parts_from calls r.book.now)
+  parts_after found = hand_out found r.book.now r.last.end (parts_from calls r.book.now)
 
-  this_call : (found : Next) → handed_part r.book.now r.at found ≡ get_or (parts_after found) 0 []
+  this_call : (found : Next) → handed_part r.book.now r.last.end found ≡ get_or (parts_after found) 0 []
   this_call (next_year e least) = refl
   this_call book_end = refl
   this_call (stop n p) = refl

@@ -20,10 +20,10 @@ after_calls (suc calls) r = after_calls calls (gone_on r)
 
 -- where a reader goes on, by what it found
 abbrev pub went_on : Reader → Next → Reader
-went_on r found = record { book = r.book; at = byte_after r.at found; least = least_then r.least found }
+went_on r found = record { book = r.book; last = record { end = byte_after r.last.end found; least = least_then r.last.least found } }
 
 module _ (r : Reader) where
-  no_year_lem : (found : Next) → is_year found ≡ false → (went_on r found ≡ r) × (handed_part r.book.now r.at found ≡ [])
+  no_year_lem : (found : Next) → is_year found ≡ false → (went_on r found ≡ r) × (handed_part r.book.now r.last.end found ≡ [])
   no_year_lem (next_year e least) h = absurd (let z : ◌≡◌ {A = ℕ} 0 1 = cc in omega arith)
   no_year_lem book_end h = (refl, refl)
   no_year_lem (stop n p) h = (refl, refl)

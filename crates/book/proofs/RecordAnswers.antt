@@ -4,13 +4,12 @@ use mathlib.Core.List.{List}
 use mathlib.Core.Path.{◌≡◌, refl}
 use Prim.Native.Nat.{ℕ, ◌≤◌, ◌<◌}
 use native.Mathlib.Omega.{arith}
-use borrow.Author.Tests.{lt-ltb, le-ltb, eq-eqb, ne_eqb, ltb-false, eqb-true, not-false}
+use borrow.Author.Tests.{le-ltb, eq-eqb, ne_eqb, ltb-false, eqb-true, not-false}
 use lib.ListN.{length, get_or}
 use lib.Dec.{eqb, ltb}
-use Rattle.reasoning.specs.Answer.{Answer, value, refused, refusing}
+use Rattle.reasoning.specs.Answer.{Answer, value, refusing}
 use Rattle.reasoning.proofs.Answers.{both_no}
 use Rattle.law.specs.Book.{Due, a_head, a_term, two_at, is_head, is_term, record_size, head_size, out_of_turn, out_of_range, record_answer}
-use Rattle.book.specs.Said.{other_kind}
 
 -- ---- sizes
 
@@ -31,27 +30,10 @@ pub term_size : (kind : ℕ) → kind ≡ 2 → record_size kind ≡ 6
 unfolding record_size
 term_size kind e = rw e
 
--- ---- the answer, refusal by refusal
+-- ---- what is accepted
 
 module _ (b : List ℕ) (due : Due) where
-  pub refuse_7 : 0 < head_size b → length b < head_size b → record_answer b due ≡ refused 7
-  unfolding record_answer
-  refuse_7 p h = simp (ne_eqb (head_size b) 0 (λ e. omega arith), lt-ltb _ _ h)
-
-  -- where it is of another kind than the one due, only its kind and its length decide
-  pub other : out_of_turn b due ≡ true → other_kind (get_or b 0 0) (length b) ≡ record_answer b due
-  unfolding record_answer
-  other e = simp e
-
   module _ (p : 0 < head_size b) (h : head_size b ≤ length b) where
-    pub refuse_10 : out_of_turn b due ≡ true → record_answer b due ≡ refused 10
-    unfolding record_answer
-    refuse_10 e = simp (ne_eqb (head_size b) 0 (λ e. omega arith), le-ltb _ _ h, e)
-
-    pub refuse_9 : out_of_turn b due ≡ false → out_of_range b due ≡ true → record_answer b due ≡ refused 9
-    unfolding record_answer
-    refuse_9 e f = simp (ne_eqb (head_size b) 0 (λ e. omega arith), le-ltb _ _ h, e, f)
-
     pub accept : out_of_turn b due ≡ false → out_of_range b due ≡ false → record_answer b due ≡ value tt
     unfolding record_answer
     accept e f = simp (ne_eqb (head_size b) 0 (λ e. omega arith), le-ltb _ _ h, e, f)
@@ -59,29 +41,9 @@ module _ (b : List ℕ) (due : Due) where
 -- ---- a head
 
 module _ (b : List ℕ) (least : ℕ) where
-  pub no_head_lem : (get_or b 0 0 ≡ 1 → ⊥) → out_of_turn b (a_head least) ≡ true
-  unfolding out_of_turn
-  no_head_lem e = simp (ne_eqb _ _ e)
-
-  pub not_above : get_or b 0 0 ≡ 1 → two_at b 1 < least → out_of_turn b (a_head least) ≡ true
-  unfolding out_of_turn
-  not_above e h = simp (eq-eqb _ _ e, lt-ltb _ _ h)
-
   pub head_turn : get_or b 0 0 ≡ 1 → least ≤ two_at b 1 → out_of_turn b (a_head least) ≡ false
   unfolding out_of_turn
   head_turn e h = simp (eq-eqb _ _ e, le-ltb _ _ h)
-
-  pub number_outside : 4_000 < two_at b 1 → out_of_range b (a_head least) ≡ true
-  unfolding out_of_range
-  number_outside x = simp (lt-ltb _ _ x)
-
-  pub name_outside : two_at b 1 ≤ 4_000 → 59 < get_or b 3 0 → out_of_range b (a_head least) ≡ true
-  unfolding out_of_range
-  name_outside x y = simp (le-ltb _ _ x, lt-ltb _ _ y)
-
-  pub mansion_outside : two_at b 1 ≤ 4_000 → get_or b 3 0 ≤ 59 → 27 < get_or b 4 0 → out_of_range b (a_head least) ≡ true
-  unfolding out_of_range
-  mansion_outside x y z = simp (le-ltb _ _ x, le-ltb _ _ y, lt-ltb _ _ z)
 
   pub head_range : two_at b 1 ≤ 4_000 → get_or b 3 0 ≤ 59 → get_or b 4 0 ≤ 27 → out_of_range b (a_head least) ≡ false
   unfolding out_of_range
@@ -90,25 +52,9 @@ module _ (b : List ℕ) (least : ℕ) where
 -- ---- a term
 
 module _ (b : List ℕ) (k : ℕ) where
-  pub no_term : (get_or b 0 0 ≡ 2 → ⊥) → out_of_turn b (a_term k) ≡ true
-  unfolding out_of_turn
-  no_term e = simp (ne_eqb _ _ e)
-
-  pub not_due : get_or b 0 0 ≡ 2 → (get_or b 1 0 ≡ k → ⊥) → out_of_turn b (a_term k) ≡ true
-  unfolding out_of_turn
-  not_due e h = simp (eq-eqb _ _ e, ne_eqb _ _ h)
-
   pub term_turn : get_or b 0 0 ≡ 2 → get_or b 1 0 ≡ k → out_of_turn b (a_term k) ≡ false
   unfolding out_of_turn
   term_turn e h = simp (eq-eqb _ _ e, eq-eqb _ _ h)
-
-  pub day_outside : 374 < two_at b 2 → out_of_range b (a_term k) ≡ true
-  unfolding out_of_range
-  day_outside x = simp (lt-ltb _ _ x)
-
-  pub minute_outside : two_at b 2 ≤ 374 → 1_439 < two_at b 4 → out_of_range b (a_term k) ≡ true
-  unfolding out_of_range
-  minute_outside x y = simp (le-ltb _ _ x, lt-ltb _ _ y)
 
   pub term_range : two_at b 2 ≤ 374 → two_at b 4 ≤ 1_439 → out_of_range b (a_term k) ≡ false
   unfolding out_of_range

@@ -137,3 +137,6 @@ module _ (s : List ℕ) (N : ℤ) (h : bad_year N ≡ false) (o : is_sound (book
 
 pub found_inside : (s : List ℕ) (N : ℤ) (a e : ℕ) → seek_of s N ≡ found a e → (a < e) × (e ≤ length s)
 found_inside s N a e h = let w = found_within s N a e h in (w.to, omega (arith, w))
+
+pub part_found : (s : List ℕ) (N : ℤ) (a e : ℕ) → found a e ≡ seek_of s N → (a < e) × (e ≤ length s)
+part_found s N a e h = found_inside s N a e (sym h)

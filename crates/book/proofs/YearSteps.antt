@@ -1,23 +1,20 @@
 -- A year's check goes one record further at a time; what an accepted year tells. Assumes nothing.
 use mathlib.Core.List.{List, [], ◌∷◌}
-use mathlib.Core.Path.{◌≡◌, refl, sym, ◌∙◌, ap}
+use mathlib.Core.Path.{◌≡◌, refl, sym, ◌∙◌, ap, ap₂}
 use Prim.Native.Nat.{ℕ, zero, suc, ◌+◌, ◌-◌, ◌*◌, ◌≤◌, ◌<◌}
 use native.Mathlib.Omega.{arith}
 use native.Mathlib.Numerals.{add-one}
-use lib.ListN.{length, drop, length-drop}
+use lib.ListN.{length, get_or, drop, length-drop}
+use lib.Seq.{drop-drop}
 use Rattle.reasoning.specs.Answer.{Answer, value, refused}
 use Rattle.law.specs.Book.{Due, a_head, a_term, Checked, sound, faulty, head_size, year_size, record_answer, or_faulty, record_then, terms_from, year_from}
-use Rattle.book.proofs.RecordAnswers.{SoundHead, SoundTerm, head_sound, sound_head, term_sound, sound_term}
+use Rattle.book.proofs.RecordAnswers.{SoundHead, SoundTerm, term_size, head_sound, sound_head, term_sound, sound_term}
 
 -- ---- one record
 
 pub record_none : (b : List ℕ) (due : Due) (at : ℕ) (next : Checked) → length b ≤ 0 → record_then b due at next ≡ faulty 10 at
 record_none [] due at next h = refl
 record_none (x ∷ b) due at next h = absurd (omega arith)
-
-pub record_bad : (b : List ℕ) (due : Due) (at : ℕ) (next : Checked) {n : ℕ} → 0 < length b → refused n ≡ record_answer b due → record_then b due at next ≡ faulty n at
-record_bad [] due at next h f = absurd (omega arith)
-record_bad (x ∷ b) due at next h f = rw (← f)
 
 pub record_good : (b : List ℕ) (due : Due) (at : ℕ) (next : Checked) → 0 < length b → value tt ≡ record_answer b due → record_then b due at next ≡ next
 record_good [] due at next h f = absurd (omega arith)
@@ -31,6 +28,20 @@ record_sound : (b : List ℕ) (due : Due) (at : ℕ) (next : Checked) (e : ℕ) 
 record_sound [] due at next e h = absurd (let z : ◌≡◌ {A = ℕ} 0 1 = cc in omega arith)
 record_sound (x ∷ b) due at next e h = or_sound (record_answer (x ∷ b) due) at next e h
 
+-- what a record alone says, with x to follow, and the check with anything that follows
+record_on : (b : List ℕ) (due : Due) (at x e : ℕ) (next : Checked) → sound e ≡ record_then b due at (sound x) → next ≡ record_then b due at next
+record_on [] due at x e next q = absurd (let z : ◌≡◌ {A = ℕ} 0 1 = cc in omega arith)
+record_on (y ∷ b) due at x e next q =
+    let w = or_sound (record_answer (y ∷ b) due) at (sound x) e (sym q) in sym (record_good (y ∷ b) due at next (omega arith) (sym w.0))
+
+or_bad : (a : Answer Unit) (at x : ℕ) (next : Checked) (n p : ℕ) → faulty n p ≡ or_faulty a at (sound x) → faulty n p ≡ or_faulty a at next
+or_bad (value u) at x next n p q = absurd (let z : ◌≡◌ {A = ℕ} 0 1 = cc in omega arith)
+or_bad (refused m) at x next n p q = q
+
+record_off : (b : List ℕ) (due : Due) (at x : ℕ) (next : Checked) (n p : ℕ) → faulty n p ≡ record_then b due at (sound x) → faulty n p ≡ record_then b due at next
+record_off [] due at x next n p q = q
+record_off (y ∷ b) due at x next n p q = or_bad (record_answer (y ∷ b) due) at x next n p q
+
 -- ---- the terms from k on, and the year
 
 terms_suc : (n k at : ℕ) (b : List ℕ) → 0 < n → terms_from n k at b ≡ record_then b (a_term k) at (terms_from (n - 1) (k + 1) (at + 6) (drop 6 b))
@@ -38,36 +49,52 @@ unfolding terms_from
 terms_suc zero k at b h = absurd (omega arith)
 terms_suc (suc n) k at b h = let e : suc n - 1 ≡ n = omega arith in rw (e, add-one)
 
-module _ (k at : ℕ) (b : List ℕ) where
-  pub terms_end : 24 ≤ k → terms_from (24 - k) k at b ≡ sound at
-  unfolding terms_from
-  terms_end h = let e : 24 - k ≡ 0 = omega arith in rw e
+terms_step : (k at : ℕ) (b : List ℕ) → k < 24 → terms_from (24 - k) k at b ≡ record_then b (a_term k) at (terms_from (24 - (k + 1)) (k + 1) (at + 6) (drop 6 b))
+terms_step k at b h = let e : 24 - k - 1 ≡ 24 - (k + 1) = omega arith in rw (← e) (terms_suc (24 - k) k at b (omega arith))
 
-  module _ (h : k < 24) where
-    step : terms_from (24 - k) k at b ≡ record_then b (a_term k) at (terms_from (24 - (k + 1)) (k + 1) (at + 6) (drop 6 b))
-    step = let e : 24 - k - 1 ≡ 24 - (k + 1) = omega arith in rw (← e) (terms_suc (24 - k) k at b (omega arith))
+pub year_none : (least at : ℕ) (b : List ℕ) → length b ≤ 0 → year_from least at b ≡ faulty 10 at
+unfolding year_from
+year_none least at b l = record_none b _ at _ l
 
-    pub terms_none : length b ≤ 0 → terms_from (24 - k) k at b ≡ faulty 10 at
-    terms_none l = step ∙ record_none b _ at _ l
+-- what the call of a record at a byte says, of the year there and of the terms from term k on
+module _ (s : List ℕ) (at : ℕ) where
+  abbrev Says : Due → Checked → Type 0
+  Says due c = c ≡ record_then (drop at s) due at (sound (at + head_size (drop at s)))
 
-    pub terms_bad : {n : ℕ} → 0 < length b → refused n ≡ record_answer b (a_term k) → terms_from (24 - k) k at b ≡ faulty n at
-    terms_bad l f = step ∙ record_bad b _ at _ l f
+  left : (due : Due) (e : ℕ) → Says due (sound e) → (at + head_size (drop at s) ≡ e) × (drop (head_size (drop at s)) (drop at s) ≡ drop e s)
+  left due e q =
+      let w = record_sound (drop at s) due at (sound (at + head_size (drop at s))) e (sym q) in
+      let z : at + head_size (drop at s) ≡ e = cc in
+      (z, drop-drop (head_size (drop at s)) at s ∙ ap (λ (i : ℕ). drop i s) z)
 
-    pub terms_more : 0 < length b → value tt ≡ record_answer b (a_term k) → terms_from (24 - k) k at b ≡ terms_from (24 - (k + 1)) (k + 1) (at + 6) (drop 6 b)
-    terms_more l f = step ∙ record_good b _ at _ l f
+  module _ (least : ℕ) where
+    pub head_bad : (n p : ℕ) → Says (a_head least) (faulty n p) → faulty n p ≡ year_from least at (drop at s)
+    unfolding year_from
+    head_bad n p q = record_off (drop at s) (a_head least) at _ _ n p q
 
-module _ (least at : ℕ) (b : List ℕ) where
-  pub year_none : length b ≤ 0 → year_from least at b ≡ faulty 10 at
-  unfolding year_from
-  year_none l = record_none b _ at _ l
+    pub head_good : (e : ℕ) → Says (a_head least) (sound e) → terms_from 24 0 e (drop e s) ≡ year_from least at (drop at s)
+    unfolding year_from
+    head_good e q =
+        let l = left (a_head least) e q in
+        ap₂ (terms_from 24 0) (sym l.0) (sym l.1) ∙ record_on (drop at s) (a_head least) at _ e _ q
 
-  pub year_bad : {n : ℕ} → 0 < length b → refused n ≡ record_answer b (a_head least) → year_from least at b ≡ faulty n at
-  unfolding year_from
-  year_bad l f = record_bad b _ at _ l f
+  module _ (k : ℕ) (h : k < 24) where
+    pub term_bad : (n p : ℕ) → Says (a_term k) (faulty n p) → faulty n p ≡ terms_from (24 - k) k at (drop at s)
+    term_bad n p q = record_off (drop at s) (a_term k) at _ _ n p q ∙ sym (terms_step k at (drop at s) h)
 
-  pub year_more : 0 < length b → value tt ≡ record_answer b (a_head least) → year_from least at b ≡ terms_from 24 0 (at + head_size b) (drop (head_size b) b)
-  unfolding year_from
-  year_more l f = record_good b _ at _ l f
+    pub term_good : (e : ℕ) → Says (a_term k) (sound e) → terms_from (24 - (k + 1)) (k + 1) e (drop e s) ≡ terms_from (24 - k) k at (drop at s)
+    term_good e q =
+        let l = left (a_term k) e q in
+        let w = record_sound (drop at s) (a_term k) at (sound (at + head_size (drop at s))) e (sym q) in
+        let kind = (term_sound k (drop at s) w.0).kind in
+        let six : head_size (drop at s) ≡ 6 = term_size (get_or (drop at s) 0 0) kind in
+        let next = terms_from (24 - (k + 1)) (k + 1) in
+        ap₂ next (sym l.0) (sym l.1)
+        ∙ (ap (λ (z : ℕ). next (at + z) (drop z (drop at s))) six ∙ (record_on (drop at s) (a_term k) at _ e _ q ∙ sym (terms_step k at (drop at s) h)))
+
+pub terms_end : (k at : ℕ) (b : List ℕ) → 24 ≤ k → sound at ≡ terms_from (24 - k) k at b
+unfolding terms_from
+terms_end k at b h = let e : 24 - k ≡ 0 = omega arith in rw e refl
 
 -- ---- accepted, as facts with no byte and no number
 
@@ -119,3 +146,6 @@ module _ (least at : ℕ) (b : List ℕ) where
 
 pub year_room : (least : ℕ) (b : List ℕ) → SoundYear least b → year_size b ≤ length b
 year_room least b g = let s = g.head in omega (arith, terms_room 24 0 (drop (head_size b) b) g.terms, length-drop (head_size b) b)
+
+-- what the code of a year needs
+pub ruleset year_steps = (head_bad, head_good, term_bad, term_good, terms_end)

@@ -1,35 +1,39 @@
 -- What this crate's answers say, in document 01's numbers. Assumes nothing.
-use Rattle.std.specs.Prelude.{ℕ, eqb, ltb}
-use Rattle.reasoning.specs.Answer.{Answer, value, refused, refusing}
-use Rattle.law.specs.Book.{Checked, sound, faulty, Next, next_year, book_end, stop, Sought, found, unsound, no_year, record_size}
-use Rattle.units.specs.Said.{number_of}
-use Rattle.book.specs.declared.record.RecordAnswer.{RecordAnswer}
-use Rattle.book.specs.declared.record.RecordAnswer.TheVariants as record-answer
-use Rattle.book.specs.declared.year.BookAnswer.{BookAnswer}
-use Rattle.book.specs.declared.year.BookAnswer.TheVariants as book-answer
-use Rattle.book.specs.declared.year.Next.{Next as NextAnswer}
-use Rattle.book.specs.declared.year.Next.TheVariants as next-answer
-use Rattle.book.specs.declared.seek.Sought.{Sought as SoughtAnswer}
-use Rattle.book.specs.declared.seek.Sought.TheVariants as sought-answer
+use Rattle.std.specs.Prelude.{ℕ, Option, Some, None, Result, Ok, Err}
+use Rattle.reasoning.specs.Answer.{Answer}
+use Rattle.law.specs.Book.{Due, a_head, a_term, Checked, sound, faulty, Next, next_year, book_end, stop, Sought, found, unsound, no_year}
+use Rattle.units.specs.declared.refusal.Refusal.{Refusal}
+use Rattle.units.specs.Said.{number_of, said}
+use Rattle.book.specs.declared.fault.Fault.{Fault}
+use Rattle.book.specs.declared.record.Due.{Due as DueRecord}
+use Rattle.book.specs.declared.record.Due.TheVariants.{Head, Term}
+use Rattle.book.specs.declared.year.Next.{Next as NextYear}
+use Rattle.book.specs.declared.seek.Part.{Part}
+use Rattle.book.specs.declared.seek.NoYear.{NoYear}
+use Rattle.book.specs.declared.seek.NoYear.TheVariants.{Unsound, Refused}
 
-abbrev pub said_record : RecordAnswer → Answer Unit
-said_record record-answer.Sound = value tt
-said_record (record-answer.Refused r) = refused (number_of r)
+abbrev pub said_due : DueRecord → Due
+said_due (Head least) = a_head least
+said_due (Term k) = a_term k
 
--- of a record of another kind than the one due, with so many bytes left from its first on
-abbrev pub other_kind : ℕ → ℕ → Answer Unit
-other_kind kind left = refusing (eqb (record_size kind) 0) 8 (refusing (ltb left (record_size kind)) 7 (refused 10))
+-- a record of this length, or its refusal
+abbrev pub said_record : Result ℕ Refusal → Answer Unit
+said_record = said (λ size. tt)
 
-abbrev pub said_checked : BookAnswer → Checked
-said_checked (book-answer.Sound end) = sound end
-said_checked (book-answer.Refused r byte) = faulty (number_of r) byte
+abbrev pub said_checked : Result ℕ Fault → Checked
+said_checked (Ok end) = sound end
+said_checked (Err fault) = faulty (number_of fault.refusal) fault.byte
 
-abbrev pub said_next : NextAnswer → Next
-said_next (next-answer.Year end least) = next_year end least
-said_next next-answer.End = book_end
-said_next (next-answer.Refused r byte) = stop (number_of r) byte
+-- of a call that finds something at a year: the year, or the end, or the fault
+abbrev pub said_call : {T : Type 0} → (T → NextYear) → Result (Option T) Fault → Next
+said_call year (Ok (Some x)) = next_year (year x).end (year x).least
+said_call year (Ok None) = book_end
+said_call year (Err fault) = stop (number_of fault.refusal) fault.byte
 
-abbrev pub said_sought : SoughtAnswer → Sought
-said_sought (sought-answer.Found start end) = found start end
-said_sought (sought-answer.Unsound r byte) = unsound (number_of r) byte
-said_sought (sought-answer.Refused r) = no_year (number_of r)
+abbrev pub said_next : Result (Option NextYear) Fault → Next
+said_next = said_call (λ year. year)
+
+abbrev pub said_sought : Result Part NoYear → Sought
+said_sought (Ok part) = found part.start part.end
+said_sought (Err (Unsound fault)) = unsound (number_of fault.refusal) fault.byte
+said_sought (Err (Refused refusal)) = no_year (number_of refusal)

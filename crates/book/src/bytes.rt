@@ -2,26 +2,15 @@
 ghost use Rattle.std.specs.Prelude.{◌≡◌, ◌<◌, get_or};
 ghost use Rattle.law.specs.Book.{two_at};
 
-fn wide(byte: u8) -> u64
-    ensures { (result ≡ byte) × (result < 256) }
-{
-    byte as u64
-}
-
 pub fn byte_at(b: &[u8], i: usize) -> u64
     ensures { (result ≡ get_or b.now i 0) × (result < 256) }
 {
-    if b.len() <= i {
-        return 0;
-    }
-    wide(b[i])
+    b.get(i).map_or(0, |byte| u64::from(*byte))
 }
 
+// Past the last place that a slice can have there is nothing.
 pub fn two_at(b: &[u8], i: usize) -> u64
     ensures { (result ≡ two_at b.now i) × (result < 65_536) }
 {
-    if b.len() <= i {
-        return 0;
-    }
-    byte_at(b, i) * 256 + byte_at(b, i + 1)
+    byte_at(b, i) * 256 + byte_at(b, i.saturating_add(1))
 }

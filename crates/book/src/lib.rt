@@ -3,12 +3,14 @@
 #![tactic(auto)]
 
 mod bytes;
+mod fault;
 mod reader;
 mod record;
 mod seek;
 mod year;
 
 pub use bytes::{byte_at, two_at};
+pub use fault::Fault;
 pub use reader::{Handed, Reader, next, open};
-pub use seek::{Sought, seek_year, year_part};
-pub use year::{BookAnswer, Next, check_book, next_at};
+pub use seek::{NoYear, Part, seek_year, year_part};
+pub use year::{Next, check_book, next_at};

@@ -1,20 +1,15 @@
 // Bytes of a slice at any place: 0 past its end.
-ghost use Rattle.std.specs.Prelude.{◌≤◌};
-
 pub(crate) fn byte_at(s: &[u8], at: usize) -> u8 {
-    if at < s.len() { s[at] } else { 0 }
+    s.get(at).copied().unwrap_or(0)
 }
 
-pub(crate) fn wide(byte: u8) -> usize
-    ensures { result ≤ 255 }
-{
-    byte as usize
+// The bytes from a place on: none past the end.
+pub(crate) fn from(s: &[u8], at: usize) -> &[u8] {
+    s.get(at..).unwrap_or(&[])
 }
 
 // Two bytes as a number, the high one first.
-pub(crate) fn two_at(s: &[u8], at: usize) -> usize
-    requires { at ≤ 1_000_000 }
-    ensures { result ≤ 65_535 }
-{
-    wide(byte_at(s, at)) * 256 + wide(byte_at(s, at + 1))
+pub(crate) fn two_at(s: &[u8], at: usize) -> u16 {
+    let two = from(s, at);
+    u16::from_be_bytes([byte_at(two, 0), byte_at(two, 1)])
 }

@@ -1,126 +1,91 @@
 // Of each damaged book: what checking it, seeking the year 0 in it, reading its first year and a reader's calls answer, what is
 // handed out where its years are corrections and a main book, and whether it is ours.
-ghost use Rattle.std.specs.Prelude.{◌≤◌, IfOk};
-
-use crate::bytes::{byte_at, two_at};
+use crate::bytes::{byte_at, from, two_at};
 use crate::read::read_year;
-use crate::refusals::refused_at;
 use crate::{corrected, readers};
-use book::{BookAnswer, Sought};
-use console::{number, refused, text};
+use book::Part;
 use std::io;
 use std::io::Write;
 use verify::Verdict;
 
-// The years -676, 0 and 321, and zeros after them.
-fn fill(room: &mut [u8]) {
-    if room.len() < 600 {
-        return;
-    }
-    values::write_year(-676, room);
-    values::write_year(0, &mut room[149..]);
-    values::write_year(321, &mut room[298..]);
-}
-
+// The years -676, 0 and 321, and zeros after them. There is room, and none of the three is refused.
 fn base_book() -> [u8; 600] {
-    let mut room = [0u8; 600];
-    fill(&mut room);
-    room
+    let mut book = [0u8; 600];
+    for (n, year) in [-676, 0, 321].into_iter().zip(book.chunks_exact_mut(149)) {
+        let _ = values::write_year(n, year);
+    }
+    book
 }
 
 fn checked(out: &mut impl Write, bytes: &[u8]) -> io::Result<()> {
     match book::check_book(bytes) {
-        BookAnswer::Sound(_) => text(out, b"sound"),
-        BookAnswer::Refused(refusal, byte) => refused_at(out, refusal, byte),
+        Ok(_) => write!(out, "sound"),
+        Err(fault) => write!(out, "{fault}"),
     }
 }
 
 fn sought(out: &mut impl Write, bytes: &[u8]) -> io::Result<()> {
     match book::seek_year(bytes, 0) {
-        Sought::Found(start, end) => {
-            number(out, start as u64)?;
-            text(out, b" to ")?;
-            number(out, end as u64)
-        }
-        Sought::Unsound(refusal, byte) => refused_at(out, refusal, byte),
-        Sought::Refused(refusal) => refused(out, refusal),
+        Ok(Part { start, end }) => write!(out, "{start} to {end}"),
+        Err(why) => write!(out, "{why}"),
     }
 }
 
 fn verified(out: &mut impl Write, bytes: &[u8]) -> io::Result<()> {
     match verify::verify_book(bytes) {
-        Verdict::Ours => text(out, b"ours"),
-        Verdict::NotOurs(byte) => {
-            text(out, b"not ours at ")?;
-            number(out, byte as u64)
-        }
-        Verdict::Refused(refusal, byte) => refused_at(out, refusal, byte),
+        Ok(Verdict::Ours) => write!(out, "ours"),
+        Ok(Verdict::NotOurs(byte)) => write!(out, "not ours at {byte}"),
+        Err(fault) => write!(out, "{fault}"),
     }
 }
 
 fn line(out: &mut impl Write, bytes: &[u8]) -> io::Result<()> {
     checked(out, bytes)?;
-    text(out, b" | ")?;
+    write!(out, " | ")?;
     sought(out, bytes)?;
-    text(out, b" | ")?;
+    write!(out, " | ")?;
     read_year(out, bytes)?;
-    text(out, b" | ")?;
+    write!(out, " | ")?;
     readers::calls(out, bytes)?;
-    text(out, b" | ")?;
+    write!(out, " | ")?;
     corrected::years(out, bytes)?;
-    text(out, b" | ")?;
+    write!(out, " | ")?;
     verified(out, bytes)?;
-    text(out, b"\n")
+    writeln!(out)
 }
 
-fn put(bytes: &mut [u8], place: usize, byte: u8) {
-    if place < bytes.len() {
-        bytes[place] = byte;
+// A change is a place, in two bytes, and the byte. A place beyond the book changes nothing.
+fn change(book: &mut [u8], change: &[u8]) {
+    if let Some(byte) = book.get_mut(usize::from(two_at(change, 0))) {
+        *byte = byte_at(change, 2);
     }
 }
 
-// So many bytes changed, each given as its place and the byte.
-fn change(input: &[u8], from: usize, changes: usize, bytes: &mut [u8])
-    requires { (from ≤ 300_000) × (changes ≤ 65_535) }
-{
-    for i in 0..changes {
-        let place = two_at(input, from + 3 * i);
-        put(bytes, place, byte_at(input, from + 3 * i + 2));
+// One damaged book. Answers the input after it.
+fn case<'a>(out: &mut impl Write, input: &'a [u8], base: [u8; 600]) -> io::Result<&'a [u8]> {
+    let len = usize::from(two_at(input, 0));
+    let changes = two_at(input, 2);
+    let mut book = base;
+    let mut rest = from(input, 4);
+    for _change in 0..changes {
+        change(&mut book, rest);
+        rest = from(rest, 3);
     }
-}
-
-fn changed_line(out: &mut impl Write, input: &[u8], at: usize, bytes: &mut [u8]) -> io::Result<()>
-    requires { at ≤ 262_144 }
-{
-    let len = two_at(input, at);
-    change(input, at + 4, two_at(input, at + 2), bytes);
-    if len <= bytes.len() {
-        line(out, &bytes[..len])?;
+    if let Some(book) = book.get(..len) {
+        line(out, book)?;
     }
-    Ok(())
+    Ok(rest)
 }
 
-// One damaged book; answers where the next one starts.
-fn case(out: &mut impl Write, input: &[u8], at: usize, base: [u8; 600]) -> io::Result<usize>
-    requires { at ≤ 262_144 }
-    ensures { IfOk result (λ next. next ≤ 500_000) }
-{
-    let mut bytes = base;
-    changed_line(out, input, at, &mut bytes)?;
-    Ok(at + 4 + 3 * two_at(input, at + 2))
-}
-
+// The first 10,000 cases, if there are so many.
 pub(crate) fn lines(out: &mut impl Write, input: &[u8]) -> io::Result<()> {
     let base = base_book();
-    let mut at = 0;
-    for turn in 0..10_000u64 {
-        if 262_144 < at {
-            return Ok(());
+    let mut rest = input;
+    for _case in 0..10_000 {
+        if rest.is_empty() {
+            break;
         }
-        if input.len() <= at {
-            return Ok(());
-        }
-        at = case(out, input, at, base)?;
+        rest = case(out, rest, base)?;
     }
     Ok(())
 }

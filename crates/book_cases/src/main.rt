@@ -10,7 +10,6 @@ mod corrected;
 mod damaged;
 mod read;
 mod readers;
-mod refusals;
 mod written;
 
 use std::io;
@@ -21,13 +20,7 @@ fn read_full(input: &mut impl Read, buffer: &mut [u8]) -> usize
     ensures { result ≤ length buffer.new }
 {
     let mut done = 0;
-    while done < buffer.len() {
-        let Ok(n) = input.read(&mut buffer[done..]) else {
-            break;
-        };
-        if n == 0 {
-            break;
-        }
+    while let Ok(n @ 1..) = input.read(&mut buffer[done..]) {
         done += n;
     }
     done

@@ -1,3 +1,4 @@
 pub mod SixReads
 pub mod ReadSoFar
 pub mod RefusalLines
+pub mod TwoDigits

@@ -1,28 +1,24 @@
 -- Each read takes the reading of a first line a byte further: what was taken is of that line, and what is asked stays what document 01
 -- says of the whole input. Assumes nothing.
-use Rattle.std.proofs.Common.{◌≡◌, refl, sym, ap, ◌∙◌, subst, ℕ, ℤ, ◌+◌, ◌-◌, ◌≤◌, List, [], ◌∷◌, ◌++◌, append-nil, length, length-append, take, Option, None, Some, IfSome, All, eqb, arith}
+use Rattle.std.proofs.Common.{◌≡◌, refl, sym, ap, ◌∙◌, subst, ℕ, ℤ, ◌-◌, ◌<◌, ◌≤◌, List, [], ◌∷◌, ◌++◌, append-nil, length, length-append, take, Option, None, Some, IfSome, All, eqb, arith}
 use Rattle.std.proofs.Math.Seq.{take-append_seam}
 use Rattle.std.proofs.lemmas.Bool.{eqb-false}
 use Rattle.std.proofs.lemmas.List.Elements.{All-append, All-cons, All-nil, All-take}
 use Rattle.std.specs.Io.{StopsAt}
+use Rattle.std.specs.Prelude.{Ok}
 use Rattle.std.specs.Io.KnownBytes.{Consumes, IsAtEnd}
 use Rattle.std.proofs.KnownBytes.{Consumes-nil, Consumes-trans}
 use Rattle.reasoning.specs.Answer.{Answer, refused}
 use Rattle.law.specs.Request.{newline, first_asks}
-use Rattle.units.specs.Said.{said_signed}
 use Rattle.request.specs.declared.line.Line.{Line}
 use Rattle.request.specs.declared.line.Line.TheVariants.{Empty, Digits, NoYear}
 use Rattle.request.specs.Reading.{line_step, line_end}
-use Rattle.request.specs.declared.first.First.{First}
-use Rattle.request.specs.declared.first.First.TheVariants as first
-use Rattle.request.specs.First.{Reached, asks, still, first_after, said_first}
+use Rattle.request.specs.First.{Reached, asks, still, first_after}
 use Rattle.request.proofs.ReadLine.{by_case}
 use Rattle.request.proofs.InBlocks.{joined}
 use Rattle.request.proofs.FirstLine.{or_else, asked_over, first_in_blocks}
-use Rattle.units.specs.declared.answer.Signed.{Signed}
-use Rattle.console.specs.declared.input.Reading.{Reading}
-use Rattle.console.specs.declared.input.Reading.TheVariants.{Asked, Open}
-use Rattle.console.specs.FirstLine.{NoNewline, Asks, ReadSoFar}
+use Rattle.request.proofs.OpenLine.{bytes_so_far, still_open}
+use Rattle.console.specs.FirstLine.{NoNewline, TakesOfLine}
 
 -- ---- what is asked
 
@@ -57,40 +53,6 @@ whole : (bytes : List ℕ) → asked_over Empty (bytes ∷ []) ≡ first_asks by
 unfolding joined
 whole bytes = first_in_blocks (bytes ∷ []) ∙ ap first_asks (append-nil bytes)
 
--- whatever is left after a block, what is asked stays
-abbrev Stays : Reading → List ℕ → Reading → Type 0
-Stays from block to = (rest : List ℕ) (answer : Answer ℤ) → Asks from (block ++ rest) answer → Asks to rest answer
-
-asked_on : (input left now : Option (List ℕ)) (taken block : List ℕ) (from to : Reading) → Consumes input left taken → Consumes left now block
-    → Stays from block to → IfSome input (λ bytes. IfSome left (λ rest. Asks from rest (first_asks bytes)))
-    → IfSome input (λ bytes. IfSome now (λ rest. Asks to rest (first_asks bytes)))
-asked_on None left now taken block from to p c f h = tt
-asked_on (Some bytes) None now taken block from to p c f h = absurd p
-asked_on (Some bytes) (Some xs) None taken block from to p c f h = tt
-asked_on (Some bytes) (Some xs) (Some ys) taken block from to p c f h =
-    f ys (first_asks bytes) (subst (λ (rest : List ℕ). Asks from rest (first_asks bytes)) c h)
-
-asks_stays : (line : Line) (block : List ℕ) (asked : Signed) → asks (said_signed asked) ≡ first_after line block → Stays (Open line) block (Asked asked)
-asks_stays line block asked e rest answer h =
-    ap (λ (r : Reached). or_else r (λ next. asked_over next (rest ∷ []))) e ∙ (after_block line block rest ∙ h)
-
-open_stays : (line longer : Line) (block : List ℕ) → still longer ≡ first_after line block → Stays (Open line) block (Open longer)
-open_stays line longer block e rest answer h =
-    ap (λ (r : Reached). or_else r (λ next. asked_over next (rest ∷ []))) e ∙ (after_block line block rest ∙ h)
-
-asked_at_end : (input left now : Option (List ℕ)) (taken : List ℕ) (line : Line) (asked : Signed) → Consumes input left taken → Consumes left now []
-    → IsAtEnd now → said_signed asked ≡ line_end line → IfSome input (λ bytes. IfSome left (λ rest. Asks (Open line) rest (first_asks bytes)))
-    → IfSome input (λ bytes. IfSome now (λ rest. Asks (Asked asked) rest (first_asks bytes)))
-asked_at_end None left now taken line asked p c end e h = tt
-asked_at_end (Some bytes) None now taken line asked p c end e h = absurd p
-asked_at_end (Some bytes) (Some xs) None taken line asked p c end e h = tt
-asked_at_end (Some bytes) (Some xs) (Some ys) taken line asked p c end e h =
-    e ∙ (sym (at_end line) ∙ (ap (λ (rest : List ℕ). asked_over line (rest ∷ [])) (sym (c ∙ end)) ∙ h))
-
-unread_asks : (input : Option (List ℕ)) → IfSome input (λ bytes. IfSome input (λ rest. Asks (Open Empty) rest (first_asks bytes)))
-unread_asks None = tt
-unread_asks (Some bytes) = whole bytes
-
 -- ---- what was taken
 
 -- a line that is still open after a block had no newline in it
@@ -112,50 +74,89 @@ stops taken (b ∷ []) h all =
     subst (All NoNewline) (sym t) all
 stops taken (b ∷ c ∷ bs) h all = absurd (omega (arith, h))
 
--- ---- a read
+-- ---- while the line is open
 
-pub read_asks : {k : ℕ} {input left now : Option (List ℕ)} {line : Line} {asked : Signed} {found : First} (so_far : Reading) (block : List ℕ)
-    → so_far ≡ Open line → found ≡ first.Asked asked → said_first found ≡ first_after line block → length block ≤ 1 → Consumes left now block
-    → ReadSoFar k input left so_far → ReadSoFar (k + 1) input now (Asked asked)
-read_asks {k = k} {input = input} {left = left} {now = now} {line = line} {asked = asked} {found = found} so_far block o e f h c r =
-    let r' = subst (ReadSoFar k input left) o r in
+-- what was taken of an input is the line so far, and what the rest makes of it is what document 01 says of the whole input
+pub record ReadSoFar (input left : Option (List ℕ)) (line : Line) : Type 0 where
+  pub taken : List ℕ
+  pub consumed : Consumes input left taken
+  pub count : length taken ≡ bytes_so_far line
+  pub most : bytes_so_far line ≤ 5
+  pub within : All NoNewline taken
+  pub asked : IfSome input (λ bytes. IfSome left (λ rest. asked_over line (rest ∷ []) ≡ first_asks bytes))
+
+unread_asks : (input : Option (List ℕ)) → IfSome input (λ bytes. IfSome input (λ rest. asked_over Empty (rest ∷ []) ≡ first_asks bytes))
+unread_asks None = tt
+unread_asks (Some bytes) = whole bytes
+
+pub unread : (input : Option (List ℕ)) → ReadSoFar input input Empty
+unread input =
+    record { taken = []; consumed = Consumes-nil input; count = refl; most = omega arith; within = All-nil NoNewline; asked = unread_asks input }
+
+-- a read of a byte or more, which leaves the line open
+opens : (input left now : Option (List ℕ)) (taken block : List ℕ) (line longer : Line) → Consumes input left taken → Consumes left now block
+    → still longer ≡ first_after line block → IfSome input (λ bytes. IfSome left (λ rest. asked_over line (rest ∷ []) ≡ first_asks bytes))
+    → IfSome input (λ bytes. IfSome now (λ rest. asked_over longer (rest ∷ []) ≡ first_asks bytes))
+opens None left now taken block line longer p c e h = tt
+opens (Some bytes) None now taken block line longer p c e h = absurd p
+opens (Some bytes) (Some xs) None taken block line longer p c e h = tt
+opens (Some bytes) (Some xs) (Some ys) taken block line longer p c e h =
+    ap (λ (r : Reached). or_else r (λ next. asked_over next (ys ∷ []))) e
+    ∙ (after_block line block ys ∙ subst (λ (rest : List ℕ). asked_over line (rest ∷ []) ≡ first_asks bytes) c h)
+
+pub read_opens : {input left now : Option (List ℕ)} {line longer : Line} (block : List ℕ) → still longer ≡ first_after line block → Consumes left now block
+    → ReadSoFar input left line → ReadSoFar input now longer
+read_opens {input = input} {left = left} {now = now} {line = line} {longer = longer} block e c r =
+    let by = still_open line block longer r.most (sym e) in
     record {
-      taken = r'.taken ++ block;
-      consumed = Consumes-trans input left now _ _ r'.consumed c;
-      most = rw (length-append r'.taken block) (omega (arith, h, r'.most));
-      within = stops r'.taken block h r'.within;
-      asked = asked_on input left now r'.taken block (Open line) (Asked asked) r'.consumed c (asks_stays line block asked (sym (ap said_first e) ∙ f)) r'.asked;
+      taken = r.taken ++ block;
+      consumed = Consumes-trans input left now _ _ r.consumed c;
+      count = rw (length-append r.taken block) (omega (arith, r.count, by.0));
+      most = by.1;
+      within = All-append NoNewline r.taken block r.within (no_newline line block longer (sym e));
+      asked = opens input left now r.taken block line longer r.consumed c e r.asked;
     }
 
-pub read_opens : {k : ℕ} {input left now : Option (List ℕ)} {line longer : Line} {found : First} (so_far : Reading) (block : List ℕ)
-    → so_far ≡ Open line → found ≡ first.Open longer → said_first found ≡ first_after line block → length block ≤ 1 → Consumes left now block
-    → ReadSoFar k input left so_far → ReadSoFar (k + 1) input now (Open longer)
-read_opens {k = k} {input = input} {left = left} {now = now} {line = line} {longer = longer} {found = found} so_far block o e f h c r =
-    let r' = subst (ReadSoFar k input left) o r in
-    record {
-      taken = r'.taken ++ block;
-      consumed = Consumes-trans input left now _ _ r'.consumed c;
-      most = rw (length-append r'.taken block) (omega (arith, h, r'.most));
-      within = All-append NoNewline r'.taken block r'.within (no_newline line block longer (sym f ∙ ap said_first e));
-      asked = asked_on input left now r'.taken block (Open line) (Open longer) r'.consumed c (open_stays line longer block (sym (ap said_first e) ∙ f)) r'.asked;
-    }
+-- ---- once it is settled
+
+settles : (input left now : Option (List ℕ)) (taken block : List ℕ) (line : Line) (answer : Answer ℤ) → Consumes input left taken → Consumes left now block
+    → asks answer ≡ first_after line block → IfSome input (λ bytes. IfSome left (λ rest. asked_over line (rest ∷ []) ≡ first_asks bytes))
+    → IfSome input (λ bytes. answer ≡ first_asks bytes)
+settles None left now taken block line answer p c e h = tt
+settles (Some bytes) None now taken block line answer p c e h = absurd p
+settles (Some bytes) (Some xs) None taken block line answer p c e h = absurd c
+settles (Some bytes) (Some xs) (Some ys) taken block line answer p c e h =
+    ap (λ (r : Reached). or_else r (λ next. asked_over next (ys ∷ []))) e
+    ∙ (after_block line block ys ∙ subst (λ (rest : List ℕ). asked_over line (rest ∷ []) ≡ first_asks bytes) c h)
+
+pub read_settles : {input left : Option (List ℕ)} (now : Option (List ℕ)) {line : Line} {answer : Answer ℤ} (block : List ℕ) → asks answer ≡ first_after line block
+    → Consumes left now block → ReadSoFar input left line → IfSome input (λ bytes. answer ≡ first_asks bytes)
+read_settles {input = input} {left = left} now {line = line} {answer = answer} block e c r =
+    settles input left now r.taken block line answer r.consumed c e r.asked
 
 -- the end of the input ends the line
-pub read_ends : {k : ℕ} {input left now : Option (List ℕ)} {line : Line} {asked : Signed} (so_far : Reading) (n : ℕ) (block : List ℕ)
-    → so_far ≡ Open line → n ≡ 0 → said_signed asked ≡ line_end line → Consumes left now (take n block) → IsAtEnd now
-    → ReadSoFar k input left so_far → ReadSoFar (k + 1) input now (Asked asked)
-read_ends {k = k} {input = input} {left = left} {now = now} {line = line} {asked = asked} so_far n block o z e c end r =
-    let r' = subst (ReadSoFar k input left) o r in
-    let c' : Consumes left now [] = subst (λ (m : ℕ). Consumes left now (take m block)) z c in
-    record {
-      taken = r'.taken ++ [];
-      consumed = Consumes-trans input left now _ _ r'.consumed c';
-      most = rw (append-nil r'.taken) (omega (arith, r'.most));
-      within = stops r'.taken [] (omega arith) r'.within;
-      asked = asked_at_end input left now r'.taken line asked r'.consumed c' end e r'.asked;
-    }
+ends : (input left now : Option (List ℕ)) (taken : List ℕ) (line : Line) → Consumes input left taken → Consumes left now [] → IsAtEnd now
+    → IfSome input (λ bytes. IfSome left (λ rest. asked_over line (rest ∷ []) ≡ first_asks bytes)) → IfSome input (λ bytes. line_end line ≡ first_asks bytes)
+ends None left now taken line p c end h = tt
+ends (Some bytes) None now taken line p c end h = absurd p
+ends (Some bytes) (Some xs) None taken line p c end h = absurd c
+ends (Some bytes) (Some xs) (Some ys) taken line p c end h =
+    sym (at_end line) ∙ (ap (λ (rest : List ℕ). asked_over line (rest ∷ [])) (sym (c ∙ end)) ∙ h)
 
--- ---- before the first read
+pub read_ends : {input left : Option (List ℕ)} (now : Option (List ℕ)) {line : Line} {answer : Answer ℤ} (n : ℕ) (block : List ℕ) → answer ≡ line_end line → n ≡ 0
+    → Consumes left now (take n block) → (n ≡ 0 → 0 < length block → IsAtEnd now) → 0 < length block → ReadSoFar input left line
+    → IfSome input (λ bytes. answer ≡ first_asks bytes)
+read_ends {input = input} {left = left} now {line = line} n block e z c end room r =
+    let none : Consumes left now [] = subst (λ (m : ℕ). Consumes left now (take m block)) z c in
+    subst (λ (a : Answer ℤ). IfSome input (λ bytes. a ≡ first_asks bytes)) (sym e) (ends input left now r.taken line r.consumed none (end z room) r.asked)
 
-pub unread : (input : Option (List ℕ)) → ReadSoFar 0 input input (Open Empty)
-unread input = record { taken = []; consumed = Consumes-nil input; most = omega arith; within = All-nil NoNewline; asked = unread_asks input }
+-- ---- what was taken
+
+pub takes_line : {A E : Type 0} {input left now : Option (List ℕ)} {line : Line} {answer : Answer ℤ} (asked : A) (block : List ℕ)
+    → asks answer ≡ first_after line block → length block ≤ 1 → Consumes left now block → ReadSoFar input left line → TakesOfLine {E = E} input now (Ok asked)
+takes_line {input = input} {left = left} {now = now} asked block e h c r = record {
+  taken = r.taken ++ block;
+  consumed = Consumes-trans input left now _ _ r.consumed c;
+  most = rw (length-append r.taken block) (omega (arith, h, r.count, r.most));
+  within = stops r.taken block h r.within;
+}

@@ -1,25 +1,24 @@
 -- Each read adds a byte to a line that stays open, and such a line has at most five: so six reads settle it. Assumes nothing.
-use mathlib.Core.Path.{◌≡◌, sym, ap, subst, ◌∙◌}
+use mathlib.Core.Path.{◌≡◌, sym}
 use mathlib.Core.List.{List}
-use Prim.Native.Nat.{ℕ, ◌≤◌}
+use Prim.Native.Nat.{ℕ, ◌+◌, ◌-◌, ◌≤◌, ◌<◌}
 use native.Mathlib.Omega.{arith}
 use lib.ListN.{length}
 use Rattle.request.specs.declared.line.Line.{Line}
-use Rattle.request.specs.declared.first.First.{First}
-use Rattle.request.specs.declared.first.First.TheVariants as first
-use Rattle.request.specs.First.{first_after, said_first}
-use Rattle.request.proofs.OpenLine.{still_open}
-use Rattle.console.specs.declared.input.Reading.{Reading}
-use Rattle.console.specs.declared.input.Reading.TheVariants.{Asked, Open, Failed}
-use Rattle.console.specs.FirstLine.{AtLeast, Further, Settled}
+use Rattle.request.specs.First.{still, first_after}
+use Rattle.request.proofs.OpenLine.{bytes_so_far, still_open}
 
-pub goes_on : {so_far : Reading} {line longer : Line} {found : First} (block : List ℕ) → so_far ≡ Open line → found ≡ first.Open longer
-    → said_first found ≡ first_after line block → 1 ≤ length block → Further so_far (Open longer)
-goes_on {line = line} {longer} {found} block e f s h k r =
-    let r' = subst (λ (reading : Reading). AtLeast k reading) e r in
-    let longer-by = still_open line block longer r'.1 (sym s ∙ ap said_first f) in (omega (arith, r'.0, longer-by.0), longer-by.1)
+-- a line that is still open has at least so many bytes, and at most a year's five
+abbrev pub AtLeast : ℕ → Line → Type 0
+AtLeast k line = (k ≤ bytes_so_far line) × (bytes_so_far line ≤ 5)
 
-pub settled : (reading : Reading) → AtLeast 6 reading → Settled reading
-settled (Asked asked) r = tt
-settled (Open line) r = omega (arith, r.0, r.1)
-settled Failed r = tt
+pub goes_on : (line longer : Line) (block : List ℕ) → still longer ≡ first_after line block → 1 ≤ length block → (k : ℕ) → AtLeast k line → AtLeast (k + 1) longer
+goes_on line longer block s h k r =
+    let longer-by = still_open line block longer r.1 (sym s) in (omega (arith, r.0, longer-by.0), longer-by.1)
+
+pub settled : (line : Line) → AtLeast 6 line → ⊥
+settled line r = omega (arith, r.0, r.1)
+
+pub fewer_left : (line longer : Line) (block : List ℕ) → bytes_so_far line ≤ 5 → still longer ≡ first_after line block → 1 ≤ length block
+    → 6 - bytes_so_far longer < 6 - bytes_so_far line
+fewer_left line longer block most s h = let r = goes_on line longer block s h (bytes_so_far line) (omega arith, most) in omega (arith, r.0, r.1)

@@ -4,5 +4,5 @@
 mod input;
 mod output;
 
-pub use input::{Reading, first_line};
+pub use input::first_line;
 pub use output::{number, refusal_line, refused, signed, tell, text, two_digits};

@@ -25,11 +25,7 @@ pub fn two_digits<W: Write>(out: &mut W, n: u64) -> io::Result<()>
     ensures one { n < 10 → OnOk result (Appends (W.contents out.old) (W.contents out.new) (codes "0" ++ decimal n)) }
     ensures more { 10 ≤ n → OnOk result (Appends (W.contents out.old) (W.contents out.new) (decimal n)) }
 {
-    if n < 10 {
-        write!(out, "0{n}")
-    } else {
-        write!(out, "{n}")
-    }
+    write!(out, "{n:02}")
 }
 
 pub fn signed<W: Write>(out: &mut W, z: i64) -> io::Result<()>
@@ -42,16 +38,14 @@ pub fn signed<W: Write>(out: &mut W, z: i64) -> io::Result<()>
 pub fn refused<W: Write>(out: &mut W, refusal: Refusal) -> io::Result<()>
     ensures { OnOk result (Appends (W.contents out.old) (W.contents out.new) (codes "refused " ++ decimal (number_of refusal))) }
 {
-    let n = units::refusal_number(refusal);
-    write!(out, "refused {n}")
+    write!(out, "{refusal}")
 }
 
 // A line of its own.
 pub fn refusal_line<W: Write>(out: &mut W, refusal: Refusal) -> io::Result<()>
     ensures { OnOk result (Appends (W.contents out.old) (W.contents out.new) (refused_text (number_of refusal))) }
 {
-    let n = units::refusal_number(refusal);
-    writeln!(out, "refused {n}")
+    writeln!(out, "{refusal}")
 }
 
 // On standard error. What that does not take, nobody can be told.

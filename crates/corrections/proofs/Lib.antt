@@ -1,4 +1,5 @@
 pub mod WorkedCorrections
 pub mod Decided
+pub mod OneBook
 pub mod CorrectionsFirst
 pub mod HeldFast

@@ -1,3 +1,4 @@
 pub mod Corrections
 pub mod Said
 pub mod Parts
+pub mod Shown

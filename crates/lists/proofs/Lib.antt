@@ -1,3 +1,4 @@
 pub mod ListFilled
+pub mod ReadAnswers
 pub mod HeldFast
 pub mod CallsCompose

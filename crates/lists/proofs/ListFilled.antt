@@ -1,52 +1,62 @@
--- What a list holds once the records for an answer are stored in it. Assumes nothing.
-use mathlib.Core.List.{List, [], ◌∷◌, map, map-append}
-use mathlib.Core.Path.{◌≡◌, refl, sym, ◌∙◌, ap}
-use Prim.Native.Nat.{ℕ, zero, suc, ◌≤◌}
-use native.Mathlib.Omega.{arith}
-use borrow.Author.Tests.{le-ltb}
-use lib.ListN.{length, take, drop, length-map}
-use lib.Seq.{take_all}
-use Rattle.reasoning.specs.Answer.{Answer, value, refused, done}
-use Rattle.law.specs.Document.{TermValues, filled}
+-- What a list holds once the terms of an answer are stored in its first records. Assumes nothing.
+use mathlib.Core.Bool.{Bool, true, false}
+use mathlib.Core.List.{List, [], ◌∷◌, ◌++◌, map, map-append}
+use mathlib.Core.Path.{◌≡◌, refl, sym, ◌∙◌, subst}
+use Prim.Native.Nat.{ℕ, zero, suc, ◌≤◌, ◌<◌}
+use borrow.Author.Tests.{lt-ltb, le-ltb}
+use lib.IntN.{ℤ}
+use lib.ListN.{length, take, drop}
+use lib.Seq.{length-take-le}
+use mir.Syntax.{w64}
+use mir.Val.{SFits}
+use mir.Facts.{to_z-of_z}
+use Rattle.std.specs.Prelude.{Result, Ok, Err}
+use Rattle.reasoning.specs.Answer.{Answer, refusing}
+use Rattle.law.specs.Document.{bad_year, terms_answer, fill_answer}
+use Rattle.units.specs.declared.refusal.Refusal.{Refusal}
+use Rattle.units.specs.IndexAnswers.{no_room}
+use Rattle.units.proofs.IndexAnswers.{no_room_answer}
+use Rattle.units.proofs.Machine.{read}
 use Rattle.sun.specs.declared.term.TermRecord.{TermRecord}
-use Rattle.lists.specs.declared.records.Records.{Records}
+use Rattle.sun.specs.declared.worked_year.WorkedYear.{WorkedYear}
 use Rattle.sun.specs.Said.{values_of_term}
-use Rattle.sun.specs.Worked.{terms_or_zeros}
-use Rattle.lists.specs.Records.{stored, fitting_count, keeps}
+use Rattle.sun.specs.Worked.{said_worked, WorkedOut}
+use Rattle.lists.specs.Fill.{Fills}
 
-pub fitting_is : {count room : ℕ} → count ≤ 24 → count ≤ room → fitting_count count room ≡ count
-unfolding fitting_count
-fitting_is {count} {room} h g = rw (le-ltb 24 count h, le-ltb room count g)
+-- the part of a list that is stored anew, or taken
+pub first_long : (l : List TermRecord) → 24 ≤ length l → length (take 24 l) ≡ 24
+first_long l h = length-take-le 24 l h
 
 map_drop : {A B : Type 0} (f : A → B) (n : ℕ) (l : List A) → map f (drop n l) ≡ drop n (map f l)
 map_drop f zero l = refl
 map_drop f (suc n) [] = refl
 map_drop f (suc n) (x ∷ l) = map_drop f n l
 
--- the list afterwards
-pub list_filled : (answer : Answer (List TermValues)) (r : Records) (l : List TermRecord) → keeps r answer → r.count ≤ length l
-    → map values_of_term (stored r.at (fitting_count r.count (length l)) l) ≡ filled answer (map values_of_term l)
-list_filled (value terms) r l k h =
-    let few : fitting_count r.count (length l) ≡ 24 = fitting_is (omega (arith, k.0)) h ∙ k.0 in
-    let same : map values_of_term (take 24 r.at) ≡ terms = rw k.0 at k.1 in
-    rw (few, map-append values_of_term (take 24 r.at) (drop 24 l), same, map_drop values_of_term 24 l)
-list_filled (refused n) r l k h =
-    let few : fitting_count r.count (length l) ≡ 0 = fitting_is (omega (arith, k)) h ∙ k in
-    rw few refl
+pub list_stored : (terms l : List TermRecord) → map values_of_term (terms ++ drop 24 l) ≡ map values_of_term terms ++ drop 24 (map values_of_term l)
+list_stored terms l = rw (map-append values_of_term terms (drop 24 l), map_drop values_of_term 24 l) refl
 
--- ---- the records for an answer
+-- ---- the year call
 
--- an answer that has terms has 24
-abbrev pub Full : Answer (List TermValues) → Type 0
-Full (value terms) = length terms ≡ 24
-Full (refused n) = Unit
+tested_twice : {A : Type 0} (b : Bool) (next : Answer A) → refusing b 1 (refusing b 1 next) ≡ refusing b 1 next
+tested_twice true next = refl
+tested_twice false next = refl
 
-pub done_refused : {A : Type 0} {a : Answer A} {k : ℕ} → refused k ≡ done a → a ≡ refused k
-done_refused {a = value x} e = absurd (let z : ◌≡◌ {A = ℕ} 0 1 = cc in omega arith)
-done_refused {a = refused n} {k = k} e = let z : n ≡ k = cc in ap refused z
+module _ (e : ℕ) (N : ℤ) (l : List TermRecord) where
+  -- a list that is too short
+  pub fill_short : length l < 24 → Fills (fill_answer e N (length l)) l l (Err (no_room N))
+  unfolding fill_answer
+  fill_short h = rw (lt-ltb (length l) 24 h, no_room_answer N) (record { says = refl; list = refl })
 
-pub kept_all : (a : Answer (List TermValues)) (l : List TermRecord) → Full a → value tt ≡ done a → map values_of_term l ≡ terms_or_zeros a → keeps (record { count = 24; at = l }) a
-kept_all (value terms) l f e q =
-    let long : length l ≡ 24 = sym (length-map l values_of_term) ∙ (ap length q ∙ f) in
-    (refl, ap (map values_of_term) (take_all 24 l (omega (arith, long))) ∙ q)
-kept_all (refused n) l f e q = absurd (let z : ◌≡◌ {A = ℕ} 0 1 = cc in omega arith)
+  -- else the year worked out decides, which is handed N as the machine reads it
+  module _ (h : 24 ≤ length l) (f : SFits w64 N) {r : Result WorkedYear Refusal} (w : WorkedOut (read w64 N) (terms_answer e (read w64 N)) r) where
+    fill_long : fill_answer e N (length l) ≡ said_worked r
+    unfolding fill_answer terms_answer
+    fill_long =
+        let out = subst (λ (z : ℤ). WorkedOut z (terms_answer e z) r) (to_z-of_z f) w in
+        rw (le-ltb (length l) 24 h) (tested_twice (bad_year N) _ ∙ sym out.says)
+
+    pub fill_refused : {q : Refusal} → r ≡ Err q → Fills (fill_answer e N (length l)) l l (Err q)
+    fill_refused i = rw (fill_long, i) (record { says = refl; list = refl })
+
+    pub fill_done : {out : WorkedYear} → r ≡ Ok out → Fills (fill_answer e N (length l)) l (out.terms ++ drop 24 l) (Ok tt)
+    fill_done {out} i = rw (fill_long, i) (record { says = refl; list = list_stored out.terms l })

@@ -4,9 +4,8 @@
 
 mod fill;
 mod read;
-mod records;
 mod write;
 
 pub use fill::fill_terms;
-pub use read::{ReadAnswer, ReadYear, read_year};
+pub use read::{ReadYear, read_year};
 pub use write::write_year_from;

@@ -13,14 +13,14 @@ use Rattle.reasoning.proofs.Whole.{Is, up, down, is_own, is_pos, is_neg, is_add,
 use Rattle.reasoning.proofs.Indexed.{Indexed, indexed}
 use Rattle.reasoning.specs.Answer.{value, refused, refusing}
 use Rattle.law.specs.Document.{clock_of_arc, local_minutes, local_day, local_minute, bad_day, bad_minute, bad_longitude, LocalValues, local_answer}
-use Rattle.reasoning.proofs.Answers.{same_value, never}
+use Rattle.reasoning.proofs.Answers.{same_value, never, stopped}
 use Rattle.law.proofs.Floor.{div_is, mod_is, floor_less}
 use Rattle.units.specs.IndexAnswers.{day_index_answer}
 use mir.Syntax.{w64}
 use mir.Val.{SFits}
 use mir.Facts.{to_z-of_z}
 use Rattle.units.proofs.Machine.{read}
-use Rattle.units.proofs.IndexAnswers.{day_in, day_out}
+use Rattle.units.proofs.IndexAnswers.{day_in}
 use Rattle.units.proofs.Clock.{clock_east, clock_west}
 
 -- ---- the shift
@@ -62,9 +62,12 @@ module _ (d : ℤ) (m : ℕ) (arc : ℤ) (j t : ℕ) (i : Is d j 4) (e : pos t �
 
 -- ---- the answer
 
-pub local_bad_day : (d : ℤ) (m : ℕ) (arc : ℤ) {k : ℕ} → refused k ≡ day_index_answer d → refused 2 ≡ local_answer d m arc
-unfolding local_answer
-local_bad_day d m arc e = rw (day_out d e) refl
+-- a day that was not indexed: what refused it is the document's refusal
+pub local_bad_day : (d : ℤ) (m : ℕ) (arc : ℤ) {k : ℕ} → SFits w64 d → refused k ≡ day_index_answer (read w64 d) → refused k ≡ local_answer d m arc
+unfolding day_index_answer local_answer
+local_bad_day d m arc f e =
+    let s = stopped (bad_day d) 2 (nat_abs (d +ℤ pos 4)) (e ∙ ap day_index_answer (to_z-of_z f)) in
+    rw s.test (ap refused s.is)
 
 module _ (d : ℤ) (m : ℕ) (arc : ℤ) {j : ℕ} (i : Indexed 4 370 d j) where
   pub local_bad_minute : 1_439 < m → refused 2 ≡ local_answer d m arc

@@ -1,10 +1,10 @@
 -- What this crate's answers say, in document 01's numbers. Assumes nothing.
-use Rattle.reasoning.specs.Answer.{Answer, value, refused}
+use Rattle.std.specs.Prelude.{Result}
+use Rattle.reasoning.specs.Answer.{Answer}
 use Rattle.law.specs.Document.{LocalValues}
-use Rattle.units.specs.Said.{number_of}
-use Rattle.local.specs.declared.LocalAnswer.{LocalAnswer}
-use Rattle.local.specs.declared.LocalAnswer.TheVariants.{Is, Refused}
+use Rattle.units.specs.declared.refusal.Refusal.{Refusal}
+use Rattle.units.specs.Said.{said}
+use Rattle.local.specs.declared.Moment.{Moment}
 
-abbrev pub said_local : LocalAnswer → Answer LocalValues
-said_local (Is moment) = value (record { day_there = moment.day; minute_there = moment.minute })
-said_local (Refused r) = refused (number_of r)
+abbrev pub said_local : Result Moment Refusal → Answer LocalValues
+said_local = said (λ m. record { day_there = m.day; minute_there = m.minute })

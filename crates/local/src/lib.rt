@@ -7,18 +7,12 @@ ghost use Rattle.std.specs.Prelude.{◌≡◌, ◌+◌, ◌*◌, ◌/◌, ◌≤
 ghost use Rattle.law.specs.Document.{local_answer};
 ghost use Rattle.local.specs.Said.{said_local};
 
-use units::{ArcSeconds, ClockSeconds, Number, Refusal};
+use units::{ArcSeconds, ClockSeconds, Refusal};
 
 #[derive(Clone, Copy)]
 pub struct Moment {
     pub day: i64,
     pub minute: u64,
-}
-
-#[derive(Clone, Copy)]
-pub enum LocalAnswer {
-    Is(Moment),
-    Refused(Refusal),
 }
 
 // Of clock.
@@ -54,25 +48,23 @@ fn day_at(seconds: u64) -> i64
     ((seconds / DAY) as i64) - 5
 }
 
-#[tactic(auto, using(crate::proofs::LocalTime::local_late_minute))]
-pub fn local_time(day: i64, minute: u64, longitude: ArcSeconds) -> LocalAnswer
+#[tactic(auto, using(crate::proofs::LocalTime::local_bad_day, crate::proofs::LocalTime::local_late_minute))]
+pub fn local_time(day: i64, minute: u64, longitude: ArcSeconds) -> Result<Moment, Refusal>
     ensures { said_local result ≡ local_answer day minute longitude.0 }
 {
-    let Number::Is(j) = units::day_index(day) else {
-        return LocalAnswer::Refused(Refusal::DayOrMinuteOutside);
-    };
+    let j = units::day_index(day)?;
     if minute > 1_439 {
-        return LocalAnswer::Refused(Refusal::DayOrMinuteOutside);
+        return Err(Refusal::DayOrMinuteOutside);
     }
     let clock = longitude.to_clock();
     let arc = longitude.seconds();
     if arc < -648_000 || arc > 648_000 {
-        return LocalAnswer::Refused(Refusal::LongitudeBeyond);
+        return Err(Refusal::LongitudeBeyond);
     }
     let here = seconds_at(j, minute);
     let there = shifted(here, clock);
     // the seconds left over are cut off
-    LocalAnswer::Is(Moment {
+    Ok(Moment {
         day: day_at(there),
         minute: there / MINUTE % 1_440,
     })

@@ -3,7 +3,6 @@
 #![tactic(auto)]
 
 mod answers;
-mod each;
 mod entries;
 mod equations;
 mod filled;

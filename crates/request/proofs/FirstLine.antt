@@ -1,13 +1,17 @@
 -- Over any blocks and the input's end, the first line asks what document 01 says of the whole input. Assumes nothing.
 use mathlib.Core.Path.{◌≡◌, refl, sym, ap, ◌∙◌}
-use mathlib.Core.Bool.{true, false, cond}
+use mathlib.Core.Bool.{Bool, true, false, cond}
 use mathlib.Core.List.{List, [], ◌∷◌, ◌++◌}
-use Prim.Native.Nat.{ℕ, ◌+◌, ◌<◌, ◌≤◌}
-use native.Mathlib.Numerals.{add-one}
+use Prim.Native.Nat.{ℕ, suc}
+use Prim.Native.Nat.compare.{suc-suc}
+use native.Mathlib.Numerals.{one-add}
+use native.Mathlib.Omega.{arith}
+use borrow.Author.Tests.{lt-ltb}
 use lib.Dec.{eqb}
 use lib.IntN.{ℤ}
-use lib.ListN.{length, drop, get_or, drop_of_length-le}
-use lib.Seq.{drop-cons}
+use lib.ListN.{length, take}
+use Rattle.std.specs.Prelude.{Some, None, ◌==◌, nat_lt, position}
+use Rattle.std.specs.List.{position_or_len}
 use Rattle.reasoning.specs.Answer.{Answer, refused}
 use Rattle.law.specs.Request.{newline, last_line, lines_from, first_of, first_asks}
 use Rattle.request.specs.declared.line.Line.{Line}
@@ -24,7 +28,6 @@ asks_from line [] = line_end line
 asks_from line (b ∷ bs) = cond (eqb b newline) (line_end line) (asks_from (line_step line b) bs)
 
 at_end : (bytes : List ℕ) → line_end (line_after Empty bytes) ≡ first_of (last_line bytes)
-unfolding line_after
 at_end [] = refl
 at_end (b ∷ bs) = read_line (b ∷ bs)
 
@@ -36,7 +39,6 @@ from bytes (b ∷ bs) =
     (λ e. rw e (ap (λ (line : Line). asks_from line bs) (sym (one_more Empty bytes b)) ∙ from (bytes ++ (b ∷ [])) bs))
 
 whole : (input : List ℕ) → asks_from Empty input ≡ first_asks input
-unfolding line_after
 whole input = from [] input
 
 none_stays : (bs : List ℕ) → asks_from NoYear bs ≡ refused 11
@@ -78,18 +80,50 @@ blocks line (x ∷ xs) =
 pub first_in_blocks : (xs : List (List ℕ)) → asked_over Empty xs ≡ first_asks (joined xs)
 first_in_blocks xs = blocks Empty xs ∙ whole (joined xs)
 
--- ---- a block taken byte by byte
+-- ---- a block taken up to its newline, or whole
 
-pub first_ends : (line : Line) (block : List ℕ) (i : ℕ) → i < length block → eqb (get_or block i 0) newline ≡ true
-    → first_after line (drop i block) ≡ settled true line
+found : (line : Line) (block : List ℕ)
+    → first_after line block
+    ≡ cond (nat_lt (position_or_len (λ b. b == newline) block) (length block)) (asks (line_end (line_after line (take (position_or_len (λ b. b == newline) block) block))))
+    (settled false (line_after line block))
 unfolding first_after
-first_ends line block i h e = rw (drop-cons block i 0, e) refl
+found line [] = refl
+found line (b ∷ bs) =
+    by_case (eqb b 10) (λ e. rw (e, lt-ltb 0 (suc (length bs)) (omega arith)) refl)
+    (λ e. let n = position_or_len (λ b. b == newline) bs in rw (e, one-add n, suc-suc (suc n) (length bs)) (found (line_step line b) bs))
 
-pub first_goes_on : (line : Line) (block : List ℕ) (i : ℕ) → i < length block → eqb (get_or block i 0) newline ≡ false
-    → first_after line (drop i block) ≡ first_after (line_step line (get_or block i 0)) (drop (i + 1) block)
-unfolding first_after
-first_goes_on line block i h e = rw (add-one, drop-cons block i 0, e) refl
+either : {end : ℕ} (n : ℕ) (r s : Reached) (t : Bool) → cond t (Some n) None ≡ Some end → cond t r s ≡ r
+either n r s true e = refl
+either n r s false e = cc
 
-pub first_at_block_end : (line : Line) (block : List ℕ) (i : ℕ) → length block ≤ i → first_after line (drop i block) ≡ settled false line
-unfolding first_after
-first_at_block_end line block i h = rw (drop_of_length-le block h) refl
+place : (end n : ℕ) (t : Bool) → cond t (Some n) None ≡ Some end → n ≡ end
+place end n true e = cc
+place end n false e = cc
+
+neither : (n : ℕ) (r s : Reached) (t : Bool) → cond t (Some n) None ≡ None → cond t r s ≡ s
+neither n r s true e = cc
+neither n r s false e = refl
+
+pub block_ends : (line : Line) (block : List ℕ) (end : ℕ) → position (λ b. b == newline) block ≡ Some end
+    → first_after line block ≡ asks (line_end (line_after line (take end block)))
+block_ends line block end e =
+    let t = nat_lt (position_or_len (λ b. b == newline) block) (length block) in
+    found line block ∙ (either _ _ _ t e ∙ ap (λ (n : ℕ). asks (line_end (line_after line (take n block)))) (place end _ t e))
+
+pub block_is_none : (line : Line) (block : List ℕ) → position (λ b. b == newline) block ≡ None → line_after line block ≡ NoYear
+    → first_after line block ≡ asks (refused 11)
+block_is_none line block e n =
+    found line block ∙ (neither _ _ _ (nat_lt (position_or_len (λ b. b == newline) block) (length block)) e ∙ ap (settled false) n)
+
+open_stays : (line : Line) → (line ≡ NoYear → ⊥) → settled false line ≡ still line
+open_stays Empty h = refl
+open_stays (Digits minus count size) h = refl
+open_stays NoYear h = absurd (h refl)
+
+pub block_goes_on : (line : Line) (block : List ℕ) → position (λ b. b == newline) block ≡ None → (line_after line block ≡ NoYear → ⊥)
+    → first_after line block ≡ still (line_after line block)
+block_goes_on line block e n =
+    found line block ∙ (neither _ _ _ (nat_lt (position_or_len (λ b. b == newline) block) (length block)) e ∙ open_stays (line_after line block) n)
+
+-- what `first_line` needs of a block
+pub ruleset block_read = (block_ends, block_is_none, block_goes_on)

@@ -5,8 +5,7 @@ use Prim.Native.Nat.{ℕ}
 use borrow.Fn.Enter.{pair≡}
 use lib.ListN.{length, take, drop, take-append-drop}
 use Rattle.reasoning.proofs.HeldFast.{Held, by_facts, one, one_said}
-use Rattle.units.specs.Said.{said_signed}
-use Rattle.units.proofs.HeldFast.{signed_back, signed_back_lem}
+use Rattle.units.proofs.HeldFast.{answer_of, answer_back, one_answer}
 use Rattle.request.specs.declared.line.Line.{Line}
 use Rattle.request.specs.declared.answers.Fed.{Fed}
 use Rattle.request.specs.declared.first.First.{First}
@@ -42,12 +41,12 @@ one_end {text} {out} {o} {o'} {n} {m} f g =
 
 -- the reading of a first line can be taken back
 first_from : Reached → First
-first_from (asks asked) = Asked (signed_back asked)
+first_from (asks asked) = Asked (answer_of (λ z. z) asked)
 first_from (still line) = Open line
 
 first_back : (first : First) → first_from (said_first first) ≡ first
 unfolding first_from
-first_back (Asked asked) = ap Asked (signed_back_lem asked)
+first_back (Asked asked) = ap Asked (answer_back (λ z. z) (λ z. z) (λ z. refl) asked)
 first_back (Open line) = refl
 
 -- ---- the functions
@@ -56,10 +55,10 @@ pub line_step_held : Held line_step.ended (λ M 𝓤. line_step.clauses {M = M} 
 line_step_held M 𝓤 𝓛 mem run κs a = by_facts 𝓤 (λ z z' w w' p q. (one p q, refl))
 
 pub line_end_held : Held line-end.ended (λ M 𝓤. line-end.clauses {M = M} {𝓤 = 𝓤})
-line_end_held M 𝓤 𝓛 mem run κs a = by_facts 𝓤 (λ z z' w w' p q. (one_said said_signed signed_back signed_back_lem p q, refl))
+line_end_held M 𝓤 𝓛 mem run κs a = by_facts 𝓤 (λ z z' w w' p q. (one_answer (λ z. z) (λ z. z) (λ z. refl) p q, refl))
 
 pub asked_by_held : Held asked_by.ended (λ M 𝓤. asked_by.clauses {M = M} {𝓤 = 𝓤})
-asked_by_held M 𝓤 𝓛 mem run κs a = by_facts 𝓤 (λ z z' w w' p q. (one_said said_signed signed_back signed_back_lem p q, refl))
+asked_by_held M 𝓤 𝓛 mem run κs a = by_facts 𝓤 (λ z z' w w' p q. (one_answer (λ z. z) (λ z. z) (λ z. refl) p q, refl))
 
 pub first_line_held : Held first-line.ended (λ M 𝓤. first-line.clauses {M = M} {𝓤 = 𝓤})
 first_line_held M 𝓤 𝓛 mem run κs a = by_facts 𝓤 (λ z z' w w' p q. (one_said said_first first_from first_back p q, refl))

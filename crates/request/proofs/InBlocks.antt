@@ -29,12 +29,11 @@ begun (Digits minus count size) b = begun_digit (no_digit b) (ltb count 4) (ltb 
 begun NoYear b = refl
 
 begun_after : (line : Line) (b : ℕ) (bs : List ℕ) → Begun (line_after (line_step line b) bs)
-unfolding line_after
 begun_after line b [] = begun line b
 begun_after line b (x ∷ xs) = begun_after (line_step line b) x xs
 
 at_end : (bytes : List ℕ) → closing (line_after Empty bytes) ≡ written_for (last_line bytes)
-unfolding line_after written_for
+unfolding written_for
 at_end [] = refl
 at_end (b ∷ bs) =
     begun_after Empty b bs ∙ (ap answer_text (read_line (b ∷ bs)) ∙ sym (append-nil (answer_text (line_asks (b ∷ bs)))))
@@ -42,12 +41,11 @@ at_end (b ∷ bs) =
 -- ---- byte by byte
 
 pub one_more : (line : Line) (bytes : List ℕ) (b : ℕ) → line_after line (bytes ++ (b ∷ [])) ≡ line_step (line_after line bytes) b
-unfolding line_after
 one_more line [] b = refl
 one_more line (x ∷ xs) b = one_more (line_step line x) xs b
 
 from : (bytes bs : List ℕ) → text_after (line_after Empty bytes) bs ++ closing (state_after (line_after Empty bytes) bs) ≡ written_for (lines_from bytes bs)
-unfolding line_after text_after state_after lines_from written_for
+unfolding text_after state_after lines_from written_for
 from bytes [] = at_end bytes
 from bytes (b ∷ bs) =
     by_case (eqb b 10)
@@ -58,7 +56,6 @@ from bytes (b ∷ bs) =
     (λ e. rw e (ap (λ (line : Line). text_after line bs ++ closing (state_after line bs)) (sym (one_more Empty bytes b)) ∙ from (bytes ++ (b ∷ [])) bs))
 
 pub whole : (input : List ℕ) → text_after Empty input ++ closing (state_after Empty input) ≡ output input
-unfolding line_after
 whole input = from [] input
 
 -- ---- block by block

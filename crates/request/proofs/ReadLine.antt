@@ -2,38 +2,25 @@
 use mathlib.Core.Path.{◌≡◌, refl, sym}
 use mathlib.Core.Bool.{Bool, true, false, ◌||◌}
 use mathlib.Core.List.{List, [], ◌∷◌}
-use Prim.Native.Nat.{ℕ, zero, suc, ◌+◌, ◌-◌, ◌*◌, ◌≤◌, ◌<◌}
+use Prim.Native.Nat.{ℕ, ◌+◌, ◌-◌, ◌*◌, ◌≤◌, ◌<◌}
 use native.Mathlib.Nat.{add-zero}
-use native.Mathlib.Numerals.{add-one}
 use native.Mathlib.Omega.{arith}
 use borrow.Author.Tests.{ne_eqb, ltb-true, ltb-false, lt-ltb, le-ltb}
 use lib.Dec.{ltb, eqb}
 use lib.IntN.{ℤ}
-use lib.ListN.{length, drop, get_or, drop_of_length-le}
-use lib.Seq.{drop-cons}
+use lib.ListN.{length}
 use Rattle.reasoning.specs.Answer.{refused, refusing}
-use Rattle.law.specs.Document.{bad_year}
-use Rattle.law.specs.Request.{number_from, signed_by, one_to_four, line_asks}
-use Rattle.request.specs.declared.line.Line.{Line}
+use Rattle.law.specs.Request.{number_from, one_to_four, line_asks}
 use Rattle.request.specs.declared.line.Line.TheVariants.{Empty, Digits, NoYear}
-use Rattle.request.specs.Reading.{line_step, line_end, line_after}
+use Rattle.request.specs.Reading.{line_end, line_after}
 
 -- a test holds, or does not
 pub by_case : {P : Type 0} (x : Bool) → (x ≡ true → P) → (x ≡ false → P) → P
 by_case true f g = f refl
 by_case false f g = g refl
 
--- a number's sign does not matter to refusal 1
-pub outside_by_size : (minus : Bool) (n : ℕ) → bad_year (signed_by minus n) ≡ ltb 2_000 n
-outside_by_size true zero = refl
-outside_by_size true (suc k) =
-    by_case (ltb 1_999 k) (λ e. let h = ltb-true 1_999 k e in rw (e, lt-ltb 2_000 (suc k) (omega arith)) refl)
-    (λ e. let h = ltb-false 1_999 k e in rw (e, le-ltb 2_000 (suc k) (omega arith)) refl)
-outside_by_size false n = refl
-
 -- a line that is no year stays none
 stays : (bs : List ℕ) → line_end (line_after NoYear bs) ≡ refused 11
-unfolding line_after
 stays [] = refl
 stays (b ∷ bs) = stays bs
 
@@ -58,7 +45,7 @@ more count n b h room high low =
 
 -- after some digits: what is read of the rest is what document 01 says of one to four
 digits_read : (minus : Bool) (count n : ℕ) (bs : List ℕ) → Below count n → line_end (line_after (Digits minus count n) bs) ≡ one_to_four minus count n bs
-unfolding line_after number_from
+unfolding number_from
 digits_read minus count n [] h = rw (add-zero, le-ltb 4 count h.0, or_no (eqb count 0)) refl
 digits_read minus count n (b ∷ bs) h =
     let all = count + length (b ∷ bs) in
@@ -74,16 +61,6 @@ digits_read minus count n (b ∷ bs) h =
     rw (low, high, full, stays bs, ne_eqb all 0 (λ e. omega arith), lt-ltb 4 all (omega arith)) refl)))
 
 pub read_line : (bytes : List ℕ) → line_end (line_after Empty bytes) ≡ line_asks bytes
-unfolding line_after line_asks
+unfolding line_asks
 read_line [] = refl
 read_line (b ∷ bs) = by_case (eqb b 45) (λ e. rw e (digits_read true 0 0 bs none)) (λ e. rw e (digits_read false 0 0 (b ∷ bs) none))
-
--- one byte more of a line in a list, and the last
-pub read_one : (line : Line) (bytes : List ℕ) (i : ℕ) → i < length bytes
-    → line_after line (drop i bytes) ≡ line_after (line_step line (get_or bytes i 0)) (drop (i + 1) bytes)
-unfolding line_after
-read_one line bytes i h = rw (add-one, drop-cons bytes i 0) refl
-
-pub read_all : (line : Line) (bytes : List ℕ) (i : ℕ) → length bytes ≤ i → line_after line (drop i bytes) ≡ line
-unfolding line_after
-read_all line bytes i h = rw (drop_of_length-le bytes h) refl

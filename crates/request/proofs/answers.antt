@@ -1,3 +1,2 @@
--- What the proofs of `put_text` and `feed_block` use.
-pub mod Copies
+-- What the proofs of this module's functions share.
 pub mod Feeding

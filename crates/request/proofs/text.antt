@@ -1,2 +1,3 @@
 -- What the proofs of this module's functions share.
-pub mod Grows
+pub mod Digits
+pub mod Put

@@ -1,6 +1,6 @@
 -- A request line as the code reads it, a byte at a time. proofs/ReadLine.antt shows that it asks what document 01 says.
 -- Assumes nothing.
-use Rattle.std.specs.Prelude.{Bool, true, false, cond, List, [], ◌∷◌, ℕ, ◌+◌, ◌-◌, ◌*◌, ltb, eqb, ℤ}
+use Rattle.std.specs.Prelude.{Bool, true, false, cond, List, ℕ, ◌+◌, ◌-◌, ◌*◌, ltb, eqb, ℤ, fold}
 use Rattle.reasoning.specs.Answer.{Answer, value, refused, refusing}
 use Rattle.law.specs.Request.{minus_sign, no_digit, year_asked}
 use Rattle.request.specs.declared.line.Line.{Line}
@@ -25,6 +25,5 @@ line_end (Digits minus count size) = refusing (eqb count 0) 11 (year_asked minus
 line_end NoYear = refused 11
 
 -- the line after some bytes
-unfoldable pub line_after : Line → List ℕ → Line
-line_after line [] = line
-line_after line (b ∷ bs) = line_after (line_step line b) bs
+abbrev pub line_after : Line → List ℕ → Line
+line_after line bytes = fold line_step line bytes

@@ -1,14 +1,11 @@
 -- An input as the code takes it, byte by byte and block by block, and what that leaves in a lent buffer.
 -- proofs/InBlocks.antt shows that what is written is document 01's output, however the input is cut. Assumes nothing.
-use Rattle.std.specs.Prelude.{◌≡◌, cond, List, [], ◌∷◌, ◌++◌, ℕ, ◌+◌, ◌/◌, ◌≤◌, ltb, eqb, length, take, drop}
+use Rattle.std.specs.Prelude.{◌≡◌, cond, List, [], ◌∷◌, ◌++◌, ℕ, ◌+◌, ◌*◌, ◌/◌, ◌≤◌, ltb, eqb, length, take, drop}
 use Rattle.law.specs.Request.{newline, answer_text}
 use Rattle.request.specs.declared.line.Line.{Line}
 use Rattle.request.specs.declared.line.Line.TheVariants.{Empty, Digits, NoYear}
-use Rattle.request.specs.declared.text.Text.{Text}
 use Rattle.request.specs.declared.answers.Fed.{Fed}
-use Rattle.request.specs.declared.answers.Stepped.{Stepped}
 use Rattle.request.specs.Reading.{line_step, line_end}
-use Rattle.request.specs.Texts.{text_bytes}
 
 -- the line after a byte of input
 abbrev pub next_line : Line → ℕ → Line
@@ -46,19 +43,14 @@ closing_in line out = cond (ltb (length out) 32) [] (closing line)
 abbrev pub Counted : ℕ → List ℕ → Type 0
 Counted n out = (n ≤ length out) × (n ≡ length (take n out))
 
--- what a text leaves in a buffer of which at bytes were written
-pub record Puts (text : Text) (at : ℕ) (out out' : List ℕ) (r : ℕ) : Type 0 where
-  pub first : take r out' ≡ take at out ++ text_bytes text
-  pub end : r ≡ at + text.n
-  pub rest : drop r out' ≡ drop r out
-
--- what a byte of input leaves in a buffer of which at bytes were written
-pub record Took (line : Line) (b at : ℕ) (out out' : List ℕ) (r : Stepped) : Type 0 where
-  pub next : r.line ≡ next_line line b
-  pub text : take r.at out' ≡ take at out ++ byte_text line b
-  pub least : at ≤ r.at
-  pub most : r.at ≤ at + 32
-  pub rest : drop r.at out' ≡ drop r.at out
+-- what a byte of input leaves in a buffer of which some bytes were written
+pub record Took (from : Fed) (b : ℕ) (out out' : List ℕ) (r : Fed) : Type 0 where
+  pub next : r.line ≡ next_line from.line b
+  pub text : take r.written out' ≡ take from.written out ++ byte_text from.line b
+  pub least : from.written ≤ r.written
+  pub rest : drop r.written out' ≡ drop r.written out
+  pub one : r.taken ≡ from.taken + 1
+  pub most : r.written ≤ 32 * r.taken
 
 -- what a block leaves
 pub record Feeds (line : Line) (block out out' : List ℕ) (r : Fed) : Type 0 where

@@ -1,12 +1,17 @@
--- A text by value, and how it grows. Assumes nothing.
-use Rattle.std.specs.Prelude.{◌≡◌, List, ◌++◌, ℕ, ◌+◌, ◌≤◌, take}
-use Rattle.request.specs.declared.text.Text.{Text}
+-- What is written for a line's answer, and what a text leaves in a buffer. Assumes nothing.
+use Rattle.std.specs.Prelude.{◌≡◌, List, ◌++◌, ℕ, ◌+◌, ◌≤◌, length, take, drop, Result, Ok, Err}
+use Rattle.law.specs.Request.{refused_text}
+use Rattle.units.specs.declared.refusal.Refusal.{Refusal}
+use Rattle.units.specs.Said.{number_of}
 
--- its bytes
-abbrev pub text_bytes : Text → List ℕ
-text_bytes text = take text.n text.bytes
+-- a text, or the refusal's
+abbrev pub written : Result (List ℕ) Refusal → List ℕ
+written (Ok text) = text
+written (Err refusal) = refused_text (number_of refusal)
 
--- longer is text with these bytes after it, at most so many
-pub record Grown (text : Text) (most : ℕ) (bytes : List ℕ) (longer : Text) : Type 0 where
-  pub all : text_bytes longer ≡ text_bytes text ++ bytes
-  pub within : longer.n ≤ text.n + most
+-- of a buffer of which at bytes were written
+pub record Puts (text : List ℕ) (at : ℕ) (out out' : List ℕ) (r : ℕ) : Type 0 where
+  pub first : take r out' ≡ take at out ++ text
+  pub end : r ≡ at + length text
+  pub most : length text ≤ 32
+  pub rest : drop r out' ≡ drop r out

@@ -1,43 +1,36 @@
 // The first line of an input, taken block by block: what it asks, as soon as no byte that may follow can change that.
-ghost use Rattle.std.specs.Prelude.{◌≡◌};
-ghost use Rattle.request.specs.First.{said_first, settled, first_after};
+ghost use Rattle.std.specs.Prelude.{◌≡◌, ◌==◌, position};
+ghost use Rattle.law.specs.Request.{newline};
+ghost use Rattle.request.specs.First.{said_first, first_after};
 
-use crate::line::{Line, line_end, line_step};
-use units::{Refusal, Signed};
+use crate::line::{Line, line_after, line_end};
+use units::Refusal;
 
 // What the line asks; or the line so far, which the next block may go on with.
-#[derive(Clone, Copy)]
+#[derive(Clone, Copy, Debug, PartialEq, Eq)]
 pub enum First {
-    Asked(Signed),
+    Asked(Result<i64, Refusal>),
     Open(Line),
 }
 
-// What is known once a line, or a block of it, has ended: a line that is no year stays none.
-fn settle(line: Line, ended: bool) -> First
-    ensures { said_first result ≡ settled ended line }
+// Where the block has its first newline.
+fn newline_in(block: &[u8]) -> Option<usize>
+    ensures { result ≡ position (λ b. b == newline) block.now }
 {
-    if ended {
-        return First::Asked(line_end(line));
-    }
-    match line {
-        Line::Empty => First::Open(Line::Empty),
-        Line::Digits { minus, count, size } => First::Open(Line::Digits { minus, count, size }),
-        Line::NoYear => First::Asked(Signed::Refused(Refusal::NotAYear)),
-    }
+    block.iter().position(|b| *b == b'\n')
 }
 
 // Goes on with a block, up to its newline. Where the input ends, an open line asks what `line_end` says.
+#[tactic(auto, using(crate::proofs::FirstLine::block_read))]
 pub fn first_line(line: Line, block: &[u8]) -> First
     ensures { said_first result ≡ first_after line block.now }
 {
-    let mut so_far = line;
-    let mut i: usize = 0;
-    while i < block.len() {
-        if block[i] == b'\n' {
-            return settle(so_far, true);
-        }
-        so_far = line_step(so_far, block[i]);
-        i = i + 1;
+    if let Some(end) = newline_in(block) {
+        return First::Asked(line_end(line_after(line, &block[..end])));
     }
-    settle(so_far, false)
+    match line_after(line, block) {
+        // stays none, whatever follows
+        Line::NoYear => First::Asked(Err(Refusal::NotAYear)),
+        open => First::Open(open),
+    }
 }

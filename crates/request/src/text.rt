@@ -1,131 +1,163 @@
 // What is written for a line, as text by value.
-ghost use Rattle.std.specs.Prelude.{◌≡◌, [], ◌∷◌, ◌+◌, ◌≤◌, ◌<◌};
+ghost use Rattle.std.specs.Prelude.{◌≡◌, [], ◌∷◌, ◌+◌, ◌≤◌, ◌<◌, ◌++◌, length};
 ghost use Rattle.reasoning.specs.Answer.{value};
 ghost use Rattle.law.specs.Document.{day};
-ghost use Rattle.law.specs.Request.{digits_of, digits, two_digits, signed_digits, year_text, refused_word, refused_text, answer_text};
+ghost use Rattle.law.specs.Request.{digits_of, digits, two_digits, signed_digits, year_text, refused_text, answer_text};
 ghost use Rattle.units.specs.Said.{number_of, said_signed};
 ghost use Rattle.sun.specs.Said.{values_of_year};
-ghost use Rattle.request.specs.Texts.{text_bytes, Grown};
+ghost use Rattle.request.specs.Texts.{Puts, written};
 
-use sun::{Year, YearAnswer};
-use units::{Refusal, Signed};
+use std::marker::Model;
+use sun::Year;
+use units::Refusal;
 
-// Some bytes of text: the first n of the array.
-#[derive(Clone, Copy)]
-pub struct Text {
-    pub n: usize,
-    pub bytes: [u8; 32],
+// Room for an answer: more than the longest has.
+pub(crate) const ROOM: usize = 32;
+
+// Some bytes of text, no more than an answer has room for.
+#[derive(Drop)]
+pub(crate) struct Text {
+    len: usize,
+    bytes: [u8; ROOM],
 }
 
-fn push(text: Text, b: u8) -> Text
-    requires { text.n < 32 }
-    ensures { Grown text 1 (b ∷ []) result }
-{
-    let n = text.n;
-    let mut longer = text;
-    longer.bytes[n] = b;
-    longer.n = n + 1;
-    longer
+impl Model for Text {
+    ghost use Rattle.std.specs.Prelude.{ℕ, List, take, ◌≤◌};
+
+    ghost Value = { List ℕ };
+
+    ghost view = { λ text. take text.len text.bytes };
+
+    ghost invariant = { λ text. text.len ≤ 32 };
 }
 
-// At most so many digits of a number.
-fn push_digits(text: Text, most: usize, v: u64) -> Text
-    requires { text.n + most ≤ 32 }
-    ensures { Grown text most (digits_of most v) result }
-{
-    if most == 0 {
-        return text;
+impl Text {
+    pub(crate) fn new() -> Text
+        ensures { result ≡ [] }
+    {
+        Text {
+            len: 0,
+            bytes: [0; ROOM],
+        }
     }
-    if v < 10 {
-        return push(text, b'0' + v as u8);
+
+    // With some bytes more.
+    fn bytes(mut self, more: &[u8]) -> Text
+        requires { length self + length more.now ≤ 32 }
+        ensures { result ≡ self ++ more.now }
+    {
+        let start = self.len;
+        let end = start + more.len();
+        self.bytes[start..end].copy_from_slice(more);
+        self.len = end;
+        self
     }
-    let above = push_digits(text, most - 1, v / 10);
-    push(above, b'0' + (v % 10) as u8)
-}
 
-// A byte, and a number.
-fn push_number(text: Text, b: u8, v: u64) -> Text
-    requires { text.n + 5 ≤ 32 }
-    ensures { Grown text 5 (b ∷ digits v) result }
-{
-    push_digits(push(text, b), 4, v)
-}
+    // With one byte more.
+    fn byte(mut self, b: u8) -> Text
+        requires { length self < 32 }
+        ensures { result ≡ self ++ b ∷ [] }
+    {
+        self.bytes[self.len] = b;
+        self.len += 1;
+        self
+    }
 
-// A byte, and two digits.
-fn push_two(text: Text, b: u8, v: u64) -> Text
-    requires { (text.n + 3 ≤ 32) × (v < 100) }
-    ensures { Grown text 3 (b ∷ two_digits v) result }
-{
-    let tens = push(push(text, b), b'0' + (v / 10) as u8);
-    push(tens, b'0' + (v % 10) as u8)
-}
+    // With at most so many digits of a number.
+    #[tactic(auto, using(crate::proofs::text::Digits::digit_by_digit))]
+    fn digits(self, most: usize, v: u64) -> Text
+        requires { length self + most ≤ 32 }
+        ensures text { result ≡ self ++ digits_of most v }
+        ensures within { length result ≤ length self + most }
+    {
+        if most == 0 {
+            return self;
+        }
+        if v < 10 {
+            return self.byte(b'0' + v as u8);
+        }
+        self.digits(most - 1, v / 10).byte(b'0' + (v % 10) as u8)
+    }
 
-pub(crate) fn no_text() -> Text
-    ensures { (text_bytes result ≡ []) × (result.n ≡ 0) }
-{
-    Text {
-        n: 0,
-        bytes: [0; 32],
+    // With a number.
+    fn number(self, v: u64) -> Text
+        requires { length self + 4 ≤ 32 }
+        ensures text { result ≡ self ++ digits v }
+        ensures within { length result ≤ length self + 4 }
+    {
+        self.digits(4, v)
+    }
+
+    // With two digits.
+    fn two_digits(self, v: u64) -> Text
+        requires { (length self + 2 ≤ 32) × (v < 100) }
+        ensures { result ≡ self ++ two_digits v }
+    {
+        self.byte(b'0' + (v / 10) as u8).byte(b'0' + (v % 10) as u8)
+    }
+
+    // Puts the text at a place of a buffer; the place after it.
+    pub(crate) fn put(&self, out: &mut [u8], at: usize) -> usize
+        requires { at + 32 ≤ length out.old }
+        ensures { Puts self.now at out.old out.new result }
+    {
+        let end = at + self.len;
+        out[at..end].copy_from_slice(&self.bytes[..self.len]);
+        end
     }
 }
 
-fn refused_word() -> Text
-    ensures { (text_bytes result ≡ refused_word) × (result.n ≡ 8) }
-{
-    Text {
-        n: 8,
-        bytes: [
-            b'r', b'e', b'f', b'u', b's', b'e', b'd', b' ', 0, 0, 0, 0, 0, 0, 0, 0, 0, 0, 0, 0, 0,
-            0, 0, 0, 0, 0, 0, 0, 0, 0, 0, 0,
-        ],
-    }
-}
-
+#[tactic(auto, unfolding(law::specs::Request::signed_digits))]
 fn signed_text(n: i64) -> Text
-    ensures { (text_bytes result ≡ signed_digits n) × (result.n ≤ 5) }
+    ensures text { result ≡ signed_digits n }
+    ensures within { length result ≤ 5 }
 {
-    let size = units::size(n);
-    if n < 0 {
-        return push_number(no_text(), b'-', size);
-    }
-    push_digits(no_text(), 4, size)
+    let sign = if n < 0 {
+        Text::new().byte(b'-')
+    } else {
+        Text::new()
+    };
+    sign.number(units::size(n))
 }
 
 // N, day name, hour:minute, mansion.
 fn year_text(n: i64, year: Year) -> Text
     requires { year.fraction < day }
-    ensures { (text_bytes result ≡ year_text n (values_of_year year)) × (result.n ≤ 32) }
+    ensures { result ≡ year_text n (values_of_year year) }
 {
-    let named = push_number(signed_text(n), b' ', year.day_name);
-    let hour = push_two(named, b' ', year.fraction * 24 / 1_000_000_000);
-    let minute = push_two(hour, b':', year.fraction * 1_440 / 1_000_000_000 % 60);
-    push(push_number(minute, b' ', year.mansion), b'\n')
+    signed_text(n)
+        .byte(b' ')
+        .number(year.day_name)
+        .byte(b' ')
+        .two_digits(year.fraction * 24 / 1_000_000_000)
+        .byte(b':')
+        .two_digits(year.fraction * 1_440 / 1_000_000_000 % 60)
+        .byte(b' ')
+        .number(year.mansion)
+        .byte(b'\n')
 }
 
+#[tactic(auto, unfolding(law::specs::Request::refused_text))]
 fn refused_text(refusal: Refusal) -> Text
-    ensures { (text_bytes result ≡ refused_text (number_of refusal)) × (result.n ≤ 32) }
+    ensures { result ≡ refused_text (number_of refusal) }
 {
-    push(
-        push_digits(refused_word(), 4, units::refusal_number(refusal)),
-        b'\n',
-    )
+    Text::new()
+        .bytes(b"refused ")
+        .number(u64::from(refusal))
+        .byte(b'\n')
 }
 
-fn year_answer(n: i64) -> Text
-    ensures { (text_bytes result ≡ answer_text (value n)) × (result.n ≤ 32) }
+// The line of a year that is not refused.
+fn year_line(n: i64) -> Result<Text, Refusal>
+    ensures { written result ≡ answer_text (value n) }
 {
-    match sun::year_of(n) {
-        YearAnswer::Is(year) => year_text(n, year),
-        YearAnswer::Refused(refusal) => refused_text(refusal),
-    }
+    Ok(year_text(n, sun::year_of(n)?))
 }
 
 // What is written for what a line asks.
-pub(crate) fn answer_text(asked: Signed) -> Text
-    ensures { (text_bytes result ≡ answer_text (said_signed asked)) × (result.n ≤ 32) }
+#[tactic(auto, unfolding(law::specs::Request::answer_text))]
+pub(crate) fn answer_text(asked: Result<i64, Refusal>) -> Text
+    ensures { result ≡ answer_text (said_signed asked) }
 {
-    match asked {
-        Signed::Is(n) => year_answer(n),
-        Signed::Refused(refusal) => refused_text(refusal),
-    }
+    asked.and_then(year_line).unwrap_or_else(refused_text)
 }

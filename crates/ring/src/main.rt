@@ -4,74 +4,36 @@
 #![tactic(auto)]
 
 mod circle;
+mod failed;
 mod middle;
 mod midnights;
 mod names;
+mod numbers;
 mod page;
 mod picture;
-mod template;
 mod terms;
 
-use console::{Reading, tell};
-use page::{FULL, Page};
+use console::tell;
+use failed::Failed;
+use numbers::YearNumber;
+use page::Page;
+use picture::picture;
 use std::io::{Read, Write};
-use sun::Listed;
-use units::{Refusal, Signed};
+use units::Refusal;
 
-#[derive(Clone, Copy)]
-enum Failed {
-    Read,
-    Refused(Refusal),
-    Draw,
-    Write,
-}
-
-fn first_bytes(page: &[u8], size: usize) -> &[u8] {
-    let start = 0;
-    if size < page.len() {
-        return &page[start..size];
-    }
-    page
-}
-
-// Nothing is written of a full page.
-fn write(out: &mut impl Write, page: &Page, size: usize) -> Result<(), Failed> {
-    if FULL <= size {
-        return Err(Failed::Draw);
-    }
-    match out.write_all(first_bytes(page, size)) {
-        Ok(()) => Ok(()),
-        Err(_) => Err(Failed::Write),
-    }
-}
-
-fn draw(out: &mut impl Write, n: i64) -> Result<(), Failed> {
-    let worked = sun::work_year(n);
-    let answer = worked.answer;
-    match answer {
-        Listed::All => {
-            let mut page = [0u8; FULL];
-            let year = worked.year;
-            let terms = worked.terms;
-            let size = picture::picture(&mut page, n, year, terms);
-            write(out, &page, size)
-        }
-        Listed::Refused(refusal) => Err(Failed::Refused(refusal)),
-    }
-}
-
-fn answer(out: &mut impl Write, asked: Signed) -> Result<(), Failed> {
-    match asked {
-        Signed::Is(n) => draw(out, n),
-        Signed::Refused(refusal) => Err(Failed::Refused(refusal)),
-    }
+// The page has nothing of use on it where this fails.
+fn draw(page: &mut Page, n: i64) -> Result<(), Failed> {
+    let worked = sun::work_year(n)?;
+    let number = YearNumber::of(n)?;
+    picture(page, n, number, &worked)?;
+    Ok(())
 }
 
 fn answer_first_line(input: &mut impl Read, out: &mut impl Write) -> Result<(), Failed> {
-    let Reading::Asked(asked) = console::first_line(input) else {
-        return Err(Failed::Read);
-    };
-    answer(out, asked)
+    let n = console::first_line(input).map_err(|_| Failed::Read)??;
+    let mut page = Page::new();
+    draw(&mut page, n)?;
+    out.write_all(page.written()).map_err(|_| Failed::Write)
 }
 
 fn refuse(rt: &HostRuntime, refusal: Refusal) {

@@ -1,1 +1,2 @@
 pub mod HeldFast
+pub mod PassedUp

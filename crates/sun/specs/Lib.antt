@@ -1,6 +1,5 @@
 pub mod YearAndDay
 pub mod Moved
 pub mod Said
-pub mod Tables
 pub mod Walks
 pub mod Worked

@@ -1,11 +1,9 @@
 -- What a walk holds at the midnight j: the places of the year, the mark within those left, and the place before. Assumes nothing.
 use Rattle.std.specs.Prelude.{◌≡◌, ℕ, ◌+◌, ◌-◌, ◌≤◌, ◌<◌}
 use Rattle.law.specs.Document.{epicycles}
-use Rattle.motion.specs.Working.{root_of, place_of}
+use Rattle.motion.specs.Working.{place_of}
 
-pub record Underway (y root mark left j before count : ℕ) : Type 0 where
-  pub year : y ≤ 4_000
-  pub rooted : root ≡ root_of y
+pub record Underway (y mark left j before count : ℕ) : Type 0 where
   pub some : 0 < left
   pub days : j + left ≤ 375
   pub most : count + left ≤ 8

@@ -1,6 +1,6 @@
-// The equation of centre, document 01's steps 1 to 5. A call that works out many equations lends both tables from above; one that
-// needs a single equation has the two sines' entries added up, and no table of sines.
-ghost use Rattle.std.specs.Prelude.{◌≡◌, ◌+◌, ◌*◌, ◌-◌, ◌/◌, ◌≤◌, ◌<◌, ◌^◌};
+// The equation of centre, document 01's steps 1 to 5. A call that works out many equations has the table of sines laid out; one that
+// needs a single equation has the two sines' entries added up. Either lends them down with the tangents.
+ghost use Rattle.std.specs.Prelude.{◌≡◌, ◌+◌, ◌*◌, ◌-◌, ◌/◌, ◌≤◌, ◌<◌, ◌^◌, IfOk};
 ghost use Rattle.law.specs.Document.{minute, ten_minutes, quarter, half, circle, radius, mirrored as mirroredArc, folded as foldedArc, sine, epicycles, equation_answer};
 ghost use Rattle.law.specs.Entry.{sine_entry};
 ghost use Rattle.law.specs.Round.{half_up};
@@ -8,15 +8,141 @@ ghost use Rattle.law.specs.Sines.{sines as sineTable};
 ghost use Rattle.law.specs.Tangents.{tangents as tangentTable};
 ghost use Rattle.motion.specs.Working.{height_of, base_of, tangent_of, angle_answer, size_answer};
 ghost use Rattle.units.specs.Said.{said_number, said_signed};
-ghost use Rattle.sun.specs.Said.{number_up_to};
-ghost use Rattle.sun.specs.Tables.{Laid};
 
 use crate::constants::{CIRCLE, EPICYCLES, HALF, MINUTE, QUARTER, RADIUS};
-use units::{Number, Refusal, Signed};
+use units::Refusal;
 
 const TEN_MINUTES: u64 = 10 * MINUTE;
 
+// The table of sines, laid out: whoever holds one holds the definition's.
+#[derive(Drop)]
+pub(crate) struct SineTable {
+    entries: [u64; 541],
+    ghost laid: { entries ≡ sineTable },
+}
+
+// The same of the tangents.
+#[derive(Drop)]
+pub(crate) struct TangentTable {
+    entries: [u64; 131],
+    ghost laid: { entries ≡ tangentTable },
+}
+
+#[derive(Clone, Copy)]
+pub(crate) struct SineAndCosine {
+    sine: u64,
+    cosine: u64,
+}
+
+// Where an equation has its sines and its angle from.
+pub(crate) trait Tables: Copy {
+    // Of an arc up to a quarter circle.
+    fn sine_and_cosine(self, x: u64) -> SineAndCosine
+        requires { x ≤ quarter }
+        ensures { (result.sine ≡ sine x) × (result.sine ≤ 10_000_000) × (result.cosine ≡ sine (quarter - x)) × (result.cosine ≤ 10_000_000) };
+
+    // Step 4.
+    fn angle_of(self, t: u64) -> Result<u64, Refusal>
+        ensures { (said_number result ≡ angle_answer t) × IfOk result (λ size. size ≤ 468_000_000_000) };
+}
+
+// Both tables, lent to each equation of a call that works out many.
+#[derive(Clone, Copy)]
+pub(crate) struct Lent<'a> {
+    pub(crate) sines: &'a SineTable,
+    pub(crate) tangents: &'a TangentTable,
+}
+
+// For a call that needs a single equation: the two entries of the sines are added up, and there is no table of them.
+#[derive(Clone, Copy)]
+pub(crate) struct AddedUp;
+
+impl SineTable {
+    // Inlined, so that the entries are added up where the table is to stand and not copied there.
+    #[inline(always)]
+    pub(crate) fn laid_out() -> SineTable {
+        let mut entries = [0; 541];
+        tables::rebuild_sines(&mut entries);
+        SineTable { entries }
+    }
+
+    // The sine of an arc up to a quarter circle. The last entry has no next.
+    fn sine_of(&self, x: u64) -> u64
+        requires { x ≤ quarter }
+        ensures { (result ≡ sine x) × (result ≤ 10_000_000) }
+    {
+        let k = (x / TEN_MINUTES) as usize;
+        let below = self.entries[k];
+        if k == 540 {
+            return below;
+        }
+        between(x, below, self.entries[k + 1] - below)
+    }
+}
+
+impl TangentTable {
+    // Inlined for the same.
+    #[inline(always)]
+    pub(crate) fn laid_out() -> TangentTable {
+        TangentTable {
+            entries: tables::tangent_table(),
+        }
+    }
+
+    // Steps of 2,908 to 2,914 put the minute at t / 2,914 or one further.
+    fn angle_of(&self, t: u64) -> Result<u64, Refusal>
+        ensures { (said_number result ≡ angle_answer t) × IfOk result (λ size. size ≤ 468_000_000_000) }
+    {
+        let last = self.entries[130];
+        if last < t {
+            return Err(Refusal::TangentAbove);
+        }
+        if t == last {
+            return Ok(130 * MINUTE);
+        }
+        let m = t / 2_914;
+        let k = m as usize;
+        let above = self.entries[k + 1];
+        if t < above {
+            return Ok(part(t, m, self.entries[k], above));
+        }
+        Ok(part(t, m + 1, above, self.entries[k + 2]))
+    }
+}
+
+impl Tables for Lent<'_> {
+    fn sine_and_cosine(self, x: u64) -> SineAndCosine {
+        SineAndCosine {
+            sine: self.sines.sine_of(x),
+            cosine: self.sines.sine_of(QUARTER - x),
+        }
+    }
+
+    fn angle_of(self, t: u64) -> Result<u64, Refusal> {
+        self.tangents.angle_of(t)
+    }
+}
+
+impl Tables for AddedUp {
+    fn sine_and_cosine(self, x: u64) -> SineAndCosine {
+        let y = QUARTER - x;
+        let found = tables::two_sine_entries(
+            (x / TEN_MINUTES) as usize,
+            (y / TEN_MINUTES) as usize,
+        );
+        SineAndCosine {
+            sine: between(x, found.first.entry, found.first.step),
+            cosine: between(y, found.second.entry, found.second.step),
+        }
+    }
+
+    fn angle_of(self, t: u64) -> Result<u64, Refusal> {
+        TangentTable::laid_out().angle_of(t)
+    }
+}
+
 // The sine of an arc up to a quarter circle, from the entry below it and the step to the next.
+#[tactic(auto, using(law::proofs::Sines::sine_between, law::proofs::Sines::sine_le))]
 fn between(x: u64, below: u64, step: u64) -> u64
     requires { (x ≤ quarter) × (below ≡ sine_entry (x / ten_minutes)) × (step ≡ sine_entry (x / ten_minutes + 1) - sine_entry (x / ten_minutes)) }
     ensures { (result ≡ sine x) × (result ≤ 10_000_000) }
@@ -24,33 +150,13 @@ fn between(x: u64, below: u64, step: u64) -> u64
     below + step * (x % TEN_MINUTES) / TEN_MINUTES
 }
 
-// The same from the table. The last entry has no next.
-fn sine_of(x: u64, sines: &[u64; 541]) -> u64
-    requires { (x ≤ quarter) × (sines.now ≡ sineTable) }
-    ensures { (result ≡ sine x) × (result ≤ 10_000_000) }
-{
-    let k = (x / TEN_MINUTES) as usize;
-    let below = sines[k];
-    if k == 540 {
-        return below;
-    }
-    between(x, below, sines[k + 1] - below)
-}
-
 // Step 1: the height from an arc's sine, and the base from its cosine.
+#[tactic(auto, unfolding(law::specs::Round::half_up))]
 fn leg(sine: u64) -> u64
     requires { sine ≤ 10_000_000 }
     ensures { (result ≡ half_up (epicycles * sine) radius) × (result ≤ 179_208) }
 {
     units::half_up(EPICYCLES * sine, RADIUS)
-}
-
-// The height at an arc from the perigee or the apogee, up to a quarter circle. The base is the height at its complement.
-fn height(x: u64, sines: &[u64; 541]) -> u64
-    requires { (x ≤ quarter) × (sines.now ≡ sineTable) }
-    ensures { (result ≡ height_of epicycles x) × (result ≤ 179_208) }
-{
-    leg(sine_of(x, sines))
 }
 
 // Steps 2 and 3 from both legs, at an arc from the perigee up to a half circle.
@@ -65,6 +171,7 @@ fn tangent_from(u: u64, height: u64, base: u64) -> u64
 }
 
 // The arc from the perigee or the apogee, whichever is nearer.
+#[tactic(auto, using(motion::proofs::Bridge::folded_near, motion::proofs::Bridge::folded_far))]
 fn folded(u: u64) -> u64
     requires { u ≤ half }
     ensures { (result ≡ foldedArc u) × (result ≤ quarter) }
@@ -75,49 +182,13 @@ fn folded(u: u64) -> u64
     HALF - u
 }
 
-// The tangent with both legs from the table of sines.
-fn tangent(u: u64, sines: &[u64; 541]) -> u64
-    requires { (u ≤ half) × (sines.now ≡ sineTable) }
-    ensures { result ≡ tangent_of epicycles u }
-{
-    let x = folded(u);
-    let high = height(x, sines);
-    let base = height(QUARTER - x, sines);
-    tangent_from(u, high, base)
-}
-
-// The same with two sums added up, and no table of sines.
-fn tangent_by_adding(u: u64) -> u64
+// The tangent with both legs: the base is the height at the complement of the arc.
+fn tangent<T: Tables>(u: u64, tables: T) -> u64
     requires { u ≤ half }
     ensures { result ≡ tangent_of epicycles u }
 {
-    let x = folded(u);
-    let y = QUARTER - x;
-    let found = tables::two_sine_entries((x / TEN_MINUTES) as usize, (y / TEN_MINUTES) as usize);
-    let high = leg(between(x, found.first.entry, found.first.step));
-    let base = leg(between(y, found.second.entry, found.second.step));
-    tangent_from(u, high, base)
-}
-
-// Step 4. Steps of 2,908 to 2,914 put the minute at t / 2,914 or one further.
-fn angle_of(t: u64, tangents: &[u64; 131]) -> Number
-    requires { tangents.now ≡ tangentTable }
-    ensures { (said_number result ≡ angle_answer t) × number_up_to 468_000_000_000 result }
-{
-    let last = tangents[130];
-    if last < t {
-        return Number::Refused(Refusal::TangentAbove);
-    }
-    if t == last {
-        return Number::Is(130 * MINUTE);
-    }
-    let m = t / 2_914;
-    let k = m as usize;
-    let above = tangents[k + 1];
-    if t < above {
-        return Number::Is(part(t, m, tangents[k], above));
-    }
-    Number::Is(part(t, m + 1, above, tangents[k + 2]))
+    let both = tables.sine_and_cosine(folded(u));
+    tangent_from(u, leg(both.sine), leg(both.cosine))
 }
 
 // The minute m and the proportional part of it, between the entries below and above t.
@@ -129,6 +200,7 @@ fn part(t: u64, m: u64, below: u64, above: u64) -> u64
 }
 
 // The arc from the perigee, the shorter way round.
+#[tactic(auto, using(motion::proofs::Bridge::mirrored_low, motion::proofs::Bridge::mirrored_high))]
 fn mirrored(a: u64) -> u64
     requires { a < circle }
     ensures { (result ≡ mirroredArc a) × (result ≤ half) }
@@ -139,37 +211,22 @@ fn mirrored(a: u64) -> u64
     CIRCLE - a
 }
 
-// The size of the equation at an anomaly in the circle, from both tables.
-pub(crate) fn size_at(a: u64, sines: &[u64; 541], tangents: &[u64; 131]) -> Number
-    requires { (a < circle) × Laid sines.now tangents.now }
-    ensures { (said_number result ≡ size_answer epicycles a) × number_up_to 468_000_000_000 result }
-{
-    angle_of(tangent(mirrored(a), sines), tangents)
-}
-
-// The same for a call that needs one.
-pub(crate) fn size_by_adding(a: u64) -> Number
+// The size of the equation at an anomaly in the circle.
+pub(crate) fn size_at<T: Tables>(a: u64, tables: T) -> Result<u64, Refusal>
     requires { a < circle }
-    ensures { (said_number result ≡ size_answer epicycles a) × number_up_to 468_000_000_000 result }
+    ensures { (said_number result ≡ size_answer epicycles a) × IfOk result (λ size. size ≤ 468_000_000_000) }
 {
-    let t = tangent_by_adding(mirrored(a));
-    let tangents = tables::tangent_table();
-    angle_of(t, &tangents)
+    tables.angle_of(tangent(mirrored(a), tables))
 }
 
 // The equation at any anomaly, in units: step 5 adds it below the half circle and takes it away from there on.
-pub fn equation_at(anomaly: i64) -> Signed
+pub fn equation_at(anomaly: i64) -> Result<i64, Refusal>
     ensures { said_signed result ≡ equation_answer epicycles anomaly }
 {
     let a = units::in_circle(anomaly);
-    match size_by_adding(a) {
-        Number::Is(size) => {
-            if a < HALF {
-                Signed::Is(size as i64)
-            } else {
-                Signed::Is(-(size as i64))
-            }
-        }
-        Number::Refused(refusal) => Signed::Refused(refusal),
+    let size = size_at(a, AddedUp)? as i64;
+    if a < HALF {
+        return Ok(size);
     }
+    Ok(-size)
 }

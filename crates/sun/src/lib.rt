@@ -4,6 +4,8 @@
 
 mod constants;
 mod equation;
+mod found;
+mod midnight;
 mod place;
 mod term;
 mod worked_year;
@@ -11,8 +13,6 @@ mod year;
 
 pub use equation::equation_at;
 pub use place::{mean_place, run_on_place, true_place};
-pub use term::{
-    Crossing, CrossingAnswer, TermAnswer, TermRecord, ZERO_RECORD, crossing_of, term_of,
-};
-pub use worked_year::{Listed, WorkedYear, work_year};
-pub use year::{Year, YearAnswer, year_of};
+pub use term::{Crossing, TermRecord, ZERO_RECORD, crossing_of, term_of};
+pub use worked_year::{WorkedYear, work_year};
+pub use year::{Year, year_of};

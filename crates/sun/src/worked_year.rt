@@ -1,78 +1,40 @@
 // A year worked out by value: its four values and its 24 terms. Both tables are laid out once, and the root is worked out once.
-ghost use Rattle.std.specs.Prelude.{◌≡◌, ◌≤◌};
 ghost use Rattle.law.specs.Document.{epicycles, terms_answer};
-ghost use Rattle.motion.specs.Working.{root_of};
-ghost use Rattle.sun.specs.Worked.{refused_year, WorkedIn, WorkedOut};
+ghost use Rattle.sun.specs.Worked.{WorkedIn, WorkedOut};
 
-use crate::term::{TermAnswer, TermRecord, ZERO_RECORD, term_in};
+use crate::equation::{Lent, SineTable, TangentTable};
+use crate::midnight::CountedYear;
+use crate::term::{TermRecord, ZERO_RECORD, term_in};
 use crate::year::{Year, year_in};
-use units::{Number, Refusal};
+use units::Refusal;
 
-#[derive(Clone, Copy)]
-pub enum Listed {
-    All,
-    Refused(Refusal),
-}
-
-// On a refusal the year's values and the terms are 0.
-#[derive(Clone, Copy)]
+#[derive(Clone, Copy, Debug, PartialEq, Eq)]
 pub struct WorkedYear {
-    pub answer: Listed,
     pub year: Year,
     pub terms: [TermRecord; 24],
 }
 
-fn refused_year(refusal: Refusal) -> WorkedYear
-    ensures { result ≡ refused_year refusal }
+fn worked_in(counted: CountedYear) -> Result<WorkedYear, Refusal>
+    ensures { WorkedIn counted.y result }
 {
-    let year = Year {
-        day_name: 0,
-        fraction: 0,
-        mansion: 0,
-        root: 0,
+    let sines = SineTable::laid_out();
+    let tangents = TangentTable::laid_out();
+    let tables = Lent {
+        sines: &sines,
+        tangents: &tangents,
     };
-    WorkedYear {
-        answer: Listed::Refused(refusal),
-        year,
-        terms: [ZERO_RECORD; 24],
-    }
-}
-
-// The year counted y.
-fn worked_in(y: u64, year: Year) -> WorkedYear
-    requires { (y ≤ 4_000) × (year.root ≡ root_of y) }
-    ensures { WorkedIn y year result }
-{
-    let mut sines = [0; 541];
-    tables::rebuild_sines(&mut sines);
-    let tangents = tables::tangent_table();
-    let root = year.root;
+    let year = year_in(counted);
     let mut terms = [ZERO_RECORD; 24];
-    let mut k: usize = 0;
-    while k < 24 {
-        match term_in(y, root, k as u64, &sines, &tangents) {
-            TermAnswer::Is(term) => {
-                terms[k] = term;
-            }
-            TermAnswer::Refused(refusal) => {
-                return refused_year(refusal);
-            }
-        }
-        k += 1;
+    for k in 0..24 {
+        terms[k] = term_in(counted, k as u64, tables)?;
     }
-    WorkedYear {
-        answer: Listed::All,
-        year,
-        terms,
-    }
+    Ok(WorkedYear { year, terms })
 }
 
 // The year n.
-pub fn work_year(n: i64) -> WorkedYear
+pub fn work_year(n: i64) -> Result<WorkedYear, Refusal>
     ensures { WorkedOut n (terms_answer epicycles n) result }
 {
-    let Number::Is(y) = units::year_index(n) else {
-        return refused_year(Refusal::YearOutside);
-    };
-    worked_in(y, year_in(y))
+    let y = units::year_index(n)?;
+    worked_in(CountedYear::of(y))
 }

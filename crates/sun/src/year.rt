@@ -5,9 +5,10 @@ ghost use Rattle.motion.specs.Working.{solstice_of, root_from, root_of, year_of}
 ghost use Rattle.sun.specs.Said.{values_of_year, said_year};
 
 use crate::constants::{DAILY, DAY, DAY_EPOCH, YEAR};
-use units::{Number, Refusal};
+use crate::midnight::CountedYear;
+use units::Refusal;
 
-#[derive(Clone, Copy)]
+#[derive(Clone, Copy, Debug, PartialEq, Eq)]
 pub struct Year {
     pub day_name: u64,
     pub fraction: u64,
@@ -15,16 +16,11 @@ pub struct Year {
     pub root: u64,
 }
 
-#[derive(Clone, Copy)]
-pub enum YearAnswer {
-    Is(Year),
-    Refused(Refusal),
-}
-
 // 730,800 days are whole sixties and whole twenty-eights, and more than 2,000 years.
 const LIFTED_EPOCH: u64 = DAY_EPOCH + (730_800 * DAY - 2_000 * YEAR);
 
 // The mean solstice, 730,800 days more than document 01 counts.
+#[tactic(auto, unfolding(motion::specs::Working::solstice_of))]
 fn solstice(y: u64) -> u64
     requires { y ≤ 4_000 }
     ensures { result ≡ solstice_of y }
@@ -40,6 +36,7 @@ fn root(solstice: u64) -> u64
     rest * (DAILY / DAY) + units::half_up(rest * (DAILY % DAY), DAY)
 }
 
+#[tactic(auto, unfolding(motion::specs::Working::root_of))]
 pub(crate) fn root_of(y: u64) -> u64
     requires { y ≤ 4_000 }
     ensures { (result ≡ root_of y) × (result ≤ 212_899_831_014) }
@@ -47,27 +44,24 @@ pub(crate) fn root_of(y: u64) -> u64
     root(solstice(y))
 }
 
-// The year counted y.
-pub(crate) fn year_in(y: u64) -> Year
-    requires { y ≤ 4_000 }
-    ensures { values_of_year result ≡ year_of y }
+#[tactic(auto, unfolding(motion::specs::Working::year_of, motion::specs::Working::root_of))]
+pub(crate) fn year_in(counted: CountedYear) -> Year
+    ensures { values_of_year result ≡ year_of counted.y }
 {
-    let at = solstice(y);
+    let at = solstice(counted.y);
     let days = at / DAY;
     Year {
         day_name: days % 60,
         fraction: at % DAY,
         // two days before the day name's epoch, plus one: 27 more, taken by 28
         mansion: (days + 27) % 28,
-        root: root(at),
+        root: counted.root,
     }
 }
 
-pub fn year_of(n: i64) -> YearAnswer
+pub fn year_of(n: i64) -> Result<Year, Refusal>
     ensures { said_year result ≡ year_answer n }
 {
-    let Number::Is(y) = units::year_index(n) else {
-        return YearAnswer::Refused(Refusal::YearOutside);
-    };
-    YearAnswer::Is(year_in(y))
+    let y = units::year_index(n)?;
+    Ok(year_in(CountedYear::of(y)))
 }

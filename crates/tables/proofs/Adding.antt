@@ -1,16 +1,20 @@
 -- An entry and its step are the next entry: so the steps, added up, give the definition's table back. Assumes nothing.
 use mathlib.Core.List.{List, [], ◌∷◌, ◌++◌}
-use mathlib.Core.Path.{◌≡◌, refl, subst, ◌∙◌}
+use mathlib.Core.Path.{◌≡◌, refl, ap, sym, subst, ◌∙◌}
 use Prim.Native.Nat.{ℕ, zero, suc, ◌+◌, ◌-◌, ◌≤◌, ◌<◌}
 use native.Mathlib.Nat.{not-suc-le-zero, le_of_suc-le-suc}
 use native.Mathlib.Numerals.{add-one}
 use native.Mathlib.Omega.{arith}
-use lib.ListN.{length, get_or, set, take, drop, replicate}
+use native.Mathlib.Decide.{dec_lt}
+use lib.ListN.{length, get_or, set, take, drop, get_or-eq_default}
+use Rattle.std.proofs.lemmas.List.{drop_all}
+use Rattle.std.proofs.lemmas.List.Sums.{sum_by_more}
+use Rattle.std.specs.List.{sum}
 use Rattle.reasoning.proofs.Stored.{more_stored}
 use Rattle.law.specs.Sines.{sines}
 use Rattle.law.specs.Entry.{last_sine, sine_entry}
-use Rattle.law.proofs.Rules.{sine_step, sine_top, sine_past}
-use Rattle.tables.specs.Steps.{steps_of, entry_and_step, Rebuilt}
+use Rattle.law.proofs.Rules.{sine_step, sine_top, sine_past, sine_ends}
+use Rattle.tables.specs.Steps.{steps_of, entry_and_step}
 
 step_at : (entries : List ℕ) (k : ℕ) → suc k < length entries → get_or (steps_of entries) k 0 ≡ get_or entries (suc k) 0 - get_or entries k 0
 unfolding steps_of
@@ -39,6 +43,18 @@ step_read {steps} e k h =
       most = sine_top (k + 1) (omega arith);
     }
 
+steps_long : {steps : List ℕ} → steps ≡ steps_of sines → length steps ≡ last_sine
+unfolding steps_of sines
+steps_long e = ap length e
+
+-- the first k steps add up to the entry at k
+pub steps_sum : (steps : List ℕ) (k : ℕ) → steps ≡ steps_of sines → k ≤ last_sine → sum (take k steps) ≡ sine_entry k
+steps_sum steps zero e h = sym sine_ends.0
+steps_sum steps (suc k) e h =
+    let next = step_read e k (omega arith) in
+    let so_far = steps_sum steps k e (omega arith) in
+    rw (sym (add-one k)) (omega (arith, sum_by_more (λ x. x) steps k 0 (omega (arith, steps_long e)), so_far, next.next))
+
 -- ---- an entry with its step: past the last seat both are 0, at the last entry there is no step, before it the step is the definition's
 
 both : (k e s : ℕ) → e ≡ sine_entry k → s ≡ sine_entry (k + 1) - sine_entry k → record { entry = e; step = s } ≡ entry_and_step k
@@ -54,22 +70,29 @@ pub before_the_end : (steps : List ℕ) (k e : ℕ) → steps ≡ steps_of sines
     → record { entry = e; step = get_or steps k 0 } ≡ entry_and_step k
 before_the_end steps k e q h p = both k e _ p (step_read q k h).is
 
--- ---- the table while it is rebuilt
+-- a step that is looked up past the last is 0
+pub up_to_the_end : (steps : List ℕ) (k e : ℕ) → steps ≡ steps_of sines → k ≤ last_sine → e ≡ sine_entry k
+    → record { entry = e; step = get_or steps k 0 } ≡ entry_and_step k
+up_to_the_end steps k e q h p = go (dec_lt k last_sine)
+  where
+    go : Dec (k < last_sine) → record { entry = e; step = get_or steps k 0 } ≡ entry_and_step k
+    go (yes l) = before_the_end steps k e q l p
+    go (no g) = let last : k ≡ last_sine = omega arith in rw (get_or-eq_default steps 0 {n = k} (omega (arith, last, steps_long q))) (at_the_end k e last p)
 
-abbrev zeros : List ℕ
-zeros = replicate 541 0
+-- ---- the table while it is rebuilt: its first k entries are the definition's, the others as they were, and the entry at hand is the next
 
-zeros_long : length zeros ≡ 541
-zeros_long = refl
+abbrev pub Rebuilt : List ℕ → List ℕ → ℕ → ℕ → Type 0
+Rebuilt before table entry k = (table ≡ take k sines ++ drop k before) × (entry ≡ sine_entry k)
 
-pub one_more : {table : List ℕ} {entry : ℕ} (k : ℕ) → k ≤ last_sine → Rebuilt table entry k → set table k entry ≡ take (k + 1) sines ++ drop (k + 1) zeros
+pub one_more : (before : List ℕ) {table : List ℕ} {entry : ℕ} (k : ℕ) → length before ≡ 541 → k ≤ last_sine → Rebuilt before table entry k
+    → set table k entry ≡ take (k + 1) sines ++ drop (k + 1) before
 unfolding sine_entry
-one_more k h r = rw (r.1, r.0) (more_stored sines zeros k 0 (omega (arith, sines_long)) (omega (arith, zeros_long)))
+one_more before k l h r = rw (r.1, r.0) (more_stored sines before k 0 (omega (arith, sines_long)) (omega (arith, l)))
 
 -- with the last entry, all are the definition's
-whole : take 541 sines ++ drop 541 zeros ≡ sines
+whole : (before : List ℕ) → length before ≡ 541 → take 541 sines ++ drop 541 before ≡ sines
 unfolding sines
-whole = refl
+whole before l = rw (drop_all 541 before (omega (arith, l))) refl
 
-pub last_one : {table : List ℕ} {entry : ℕ} (k : ℕ) → k ≡ last_sine → Rebuilt table entry k → set table last_sine entry ≡ sines
-last_one {table} {entry} k e r = one_more last_sine (omega arith) (subst (Rebuilt table entry) e r) ∙ whole
+pub last_one : (before : List ℕ) {table : List ℕ} {entry : ℕ} (k : ℕ) → length before ≡ 541 → k ≡ last_sine → Rebuilt before table entry k → set table last_sine entry ≡ sines
+last_one before {table} {entry} k l e r = one_more before last_sine l (omega arith) (subst (Rebuilt before table entry) e r) ∙ whole before l

@@ -1,6 +1,5 @@
 -- The steps of a table, from each entry to the next, and what is answered of one seat of the sine table. Assumes nothing.
-use Rattle.std.specs.Prelude.{List, [], ◌∷◌, ◌++◌, ◌≡◌, ℕ, ◌+◌, ◌-◌, take, drop, replicate}
-use Rattle.law.specs.Sines.{sines}
+use Rattle.std.specs.Prelude.{List, [], ◌∷◌, ℕ, ◌+◌, ◌-◌}
 use Rattle.law.specs.Entry.{sine_entry}
 use Rattle.tables.specs.declared.EntryAndStep.{EntryAndStep}
 use Rattle.tables.specs.declared.TwoEntries.{TwoEntries}
@@ -16,7 +15,3 @@ entry_and_step k = record { entry = sine_entry k; step = sine_entry (k + 1) - si
 
 abbrev pub two_entries : ℕ → ℕ → TwoEntries
 two_entries k j = record { first = entry_and_step k; second = entry_and_step j }
-
--- the table while it is rebuilt: its first k entries are the definition's, the others still 0, and the entry at hand is the next
-abbrev pub Rebuilt : List ℕ → ℕ → ℕ → Type 0
-Rebuilt table entry k = (table ≡ take k sines ++ drop k (replicate 541 0)) × (entry ≡ sine_entry k)

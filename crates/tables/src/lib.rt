@@ -6,17 +6,17 @@
 mod sines;
 mod tangents;
 
-ghost use Rattle.std.specs.Prelude.{◌≡◌, ◌+◌, ◌≤◌, ◌<◌};
+ghost use Rattle.std.specs.Prelude.{◌≡◌, ◌≤◌};
 ghost use Rattle.law.specs.Entry.{sine_entry, tangent_entry};
 ghost use Rattle.law.specs.Sines.{sines};
 ghost use Rattle.law.specs.Tangents.{tangents};
-ghost use Rattle.tables.specs.Steps.{steps_of, entry_and_step, two_entries, Rebuilt};
+ghost use Rattle.tables.specs.Steps.{steps_of, entry_and_step, two_entries};
 
 use sines::SINE_STEPS;
 use tangents::TANGENTS;
 
-// An entry of the sine table and the step from it to the next, 0 where there is no next.
-#[derive(Clone, Copy)]
+// An entry of the sine table and the step from it to the next, 0 where there is no next. Past the end both are 0.
+#[derive(Clone, Copy, Default)]
 pub struct EntryAndStep {
     pub entry: u64,
     pub step: u64,
@@ -28,107 +28,76 @@ pub struct TwoEntries {
     pub second: EntryAndStep,
 }
 
-// A constant array is laid out on the stack wherever it is read: a call does it once, here, where it is to stand.
-fn lay_steps(steps: &mut [u16; 540])
-    ensures { steps.new ≡ steps_of sines }
+// The steps as they are stored, in memory that is only read: none is copied.
+fn stored_steps() -> &'static [u16; 540]
+    ensures { result.now ≡ steps_of sines }
 {
-    *steps = SINE_STEPS;
+    &SINE_STEPS
 }
 
 // The entry at k: the first k steps added up. Four bytes hold it, and the compiler adds more of them at a time.
-fn added_up(steps: &[u16; 540], k: usize) -> u32
-    requires { (k ≤ 540) × (steps.now ≡ steps_of sines) }
+fn added_up(k: usize) -> u32
+    requires { k ≤ 540 }
     ensures { result ≡ sine_entry k }
 {
-    let mut entry: u32 = 0;
-    let mut i: usize = 0;
-    while i < k {
-        entry += steps[i] as u32;
-        i += 1;
-    }
-    entry
+    stored_steps()[..k]
+        .iter()
+        .map(|&step| u32::from(step))
+        .sum()
 }
 
-#[tactic(auto, using(crate::proofs::Adding::past_the_end, crate::proofs::Adding::at_the_end, crate::proofs::Adding::before_the_end))]
-fn entry_and_step(steps: &[u16; 540], k: usize) -> EntryAndStep
-    requires { steps.now ≡ steps_of sines }
+#[tactic(auto, using(crate::proofs::Adding::past_the_end, crate::proofs::Adding::up_to_the_end))]
+fn entry_and_step(k: usize) -> EntryAndStep
     ensures { result ≡ entry_and_step k }
 {
     if 540 < k {
-        return EntryAndStep { entry: 0, step: 0 };
-    }
-    let entry = added_up(steps, k) as u64;
-    if k == 540 {
-        return EntryAndStep { entry, step: 0 };
+        return EntryAndStep::default();
     }
     EntryAndStep {
-        entry,
-        step: steps[k] as u64,
+        entry: u64::from(added_up(k)),
+        step: u64::from(stored_steps().get(k).copied().unwrap_or(0)),
     }
-}
-
-#[tactic(auto, using(crate::proofs::Entries::tangent_read, crate::proofs::Entries::tangent_none))]
-fn tangent_in(table: &[u64; 131], m: usize) -> u64
-    requires { table.now ≡ tangents }
-    ensures { result ≡ tangent_entry m }
-{
-    if m < 131 { table[m] } else { 0 }
 }
 
 // The sine at k times 10 minutes of arc, for the radius 10,000,000.
 pub fn sine_entry(k: usize) -> u64
     ensures { result ≡ sine_entry k }
 {
-    let mut steps = [0; 540];
-    lay_steps(&mut steps);
-    let found = entry_and_step(&steps, k);
-    found.entry
+    entry_and_step(k).entry
+}
+
+fn stored_tangents() -> &'static [u64; 131]
+    ensures { result.now ≡ tangents }
+{
+    &TANGENTS
 }
 
 // The tangent at m minutes of arc, for the radius 10,000,000.
+#[tactic(auto, using(crate::proofs::Entries::tangent_read))]
 pub fn tangent_entry(m: usize) -> u64
     ensures { result ≡ tangent_entry m }
 {
-    let table = tangent_table();
-    tangent_in(&table, m)
+    stored_tangents().get(m).copied().unwrap_or(0)
 }
 
 // What two sines need, for a call that needs no more: only their two sums are added up.
 pub fn two_sine_entries(k: usize, j: usize) -> TwoEntries
     ensures { result ≡ two_entries k j }
 {
-    let mut steps = [0; 540];
-    lay_steps(&mut steps);
-    let first = entry_and_step(&steps, k);
-    let second = entry_and_step(&steps, j);
-    TwoEntries { first, second }
+    TwoEntries {
+        first: entry_and_step(k),
+        second: entry_and_step(j),
+    }
 }
 
-// Puts the entry at k in its place, and adds the step to the next.
-fn put_entry(table: &mut [u64; 541], steps: &[u16; 540], k: usize, entry: u64) -> u64
-    requires { (k < 540) × (steps.now ≡ steps_of sines) × Rebuilt table.old entry k }
-    ensures { Rebuilt table.new result (k + 1) }
-{
-    table[k] = entry;
-    entry + steps[k] as u64
-}
-
-// The whole table, rebuilt where it is to stand, for a call that reads many entries. What stood there goes first, so that the prover
-// knows the table's length; the compiler then leaves out the caller's own zeros. Four entries in one turn take two thirds of the time.
+// The whole table, rebuilt where it is to stand, for a call that reads many entries.
 pub fn rebuild_sines(table: &mut [u64; 541])
     ensures { table.new ≡ sines }
 {
-    let mut steps = [0; 540];
-    lay_steps(&mut steps);
-    *table = [0; 541];
     let mut entry: u64 = 0;
-    let mut k: usize = 0;
-    while k < 540 {
-        entry = put_entry(table, &steps, k, entry);
-        entry = put_entry(table, &steps, k + 1, entry);
-        entry = put_entry(table, &steps, k + 2, entry);
-        entry = put_entry(table, &steps, k + 3, entry);
-        k += 4;
+    for (k, step) in stored_steps().iter().enumerate() {
+        table[k] = entry;
+        entry += u64::from(*step);
     }
     table[540] = entry;
 }
@@ -145,5 +114,5 @@ pub fn sine_table() -> [u64; 541]
 pub fn tangent_table() -> [u64; 131]
     ensures { result ≡ tangents }
 {
-    TANGENTS
+    *stored_tangents()
 }

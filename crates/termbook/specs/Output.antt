@@ -5,11 +5,14 @@ use Rattle.law.specs.Book.{worked_answer}
 use Rattle.law.specs.Document.{epicycles}
 use Rattle.law.specs.Request.{refused_text}
 
+-- a book of one year has 149 bytes
+abbrev pub book_asked : Answer ℤ → Answer (List ℕ)
+book_asked (value N) = worked_answer epicycles N (replicate 149 0)
+book_asked (refused number) = refused number
+
 abbrev pub book_or_refusal : Answer (List ℕ) → List ℕ
 book_or_refusal (value bytes) = bytes
 book_or_refusal (refused number) = refused_text number
 
--- a book of one year has 149 bytes
 abbrev pub output : Answer ℤ → List ℕ
-output (value N) = book_or_refusal (worked_answer epicycles N (replicate 149 0))
-output (refused number) = refused_text number
+output asked = book_or_refusal (book_asked asked)

@@ -2,18 +2,15 @@
 // is refused as an empty one is. A failed read or write is told on standard error.
 #![tactic(auto)]
 
-ghost use Rattle.std.specs.Prelude.{IfSome, OnOk};
+ghost use Rattle.std.specs.Prelude.{◌≡◌, IfSome, OnOk};
 ghost use Rattle.std.specs.Io.KnownBytes.{Appends};
-ghost use Rattle.reasoning.specs.Answer.{value};
 ghost use Rattle.law.specs.Request.{first_asks};
-ghost use Rattle.units.specs.Said.{said_signed};
-ghost use Rattle.termbook.specs.Output.{output};
+ghost use Rattle.units.specs.Said.{said, said_signed};
+ghost use Rattle.termbook.specs.Output.{book_asked, output};
 
-use console::Reading;
 use std::io;
 use std::io::{Read, Write};
-use units::Signed;
-use values::Written;
+use units::Refusal;
 
 #[derive(Clone, Copy)]
 enum Failed {
@@ -21,22 +18,21 @@ enum Failed {
     Write,
 }
 
-fn write_book<W: Write>(out: &mut W, n: i64) -> io::Result<()>
-    ensures { OnOk result (Appends (W.contents out.old) (W.contents out.new) (output (value n))) }
+// The book of the year that is asked.
+fn year_book(asked: Result<i64, Refusal>) -> Result<[u8; 149], Refusal>
+    ensures { said (λ book. book) result ≡ book_asked (said_signed asked) }
 {
-    let mut year = [0u8; 149];
-    match values::write_year(n, &mut year) {
-        Written::Done => console::text(out, &year),
-        Written::Refused(refusal) => console::refusal_line(out, refusal),
-    }
+    let mut book = [0u8; 149];
+    values::write_year(asked?, &mut book)?;
+    Ok(book)
 }
 
-fn answer<W: Write>(out: &mut W, asked: Signed) -> io::Result<()>
+fn answer<W: Write>(out: &mut W, asked: Result<i64, Refusal>) -> io::Result<()>
     ensures { OnOk result (Appends (W.contents out.old) (W.contents out.new) (output (said_signed asked))) }
 {
-    match asked {
-        Signed::Is(n) => write_book(out, n),
-        Signed::Refused(refusal) => console::refusal_line(out, refusal),
+    match year_book(asked) {
+        Ok(book) => console::text(out, &book),
+        Err(refusal) => console::refusal_line(out, refusal),
     }
 }
 
@@ -44,13 +40,8 @@ fn answer_first_line<R: Read, W: Write>(input: &mut R, out: &mut W) -> Result<()
     ensures { OnOk result (IfSome (R.remaining input.old)
         (λ bytes. Appends (W.contents out.old) (W.contents out.new) (output (first_asks bytes)))) }
 {
-    let Reading::Asked(asked) = console::first_line(input) else {
-        return Err(Failed::Read);
-    };
-    match answer(out, asked) {
-        Ok(()) => Ok(()),
-        Err(_) => Err(Failed::Write),
-    }
+    let asked = console::first_line(input).map_err(|_| Failed::Read)?;
+    answer(out, asked).map_err(|_| Failed::Write)
 }
 
 fn main(rt: HostRuntime) {

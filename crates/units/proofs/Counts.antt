@@ -1,17 +1,12 @@
 -- A year or a day and its count from the least allowed: there, and back again. Assumes nothing.
-use mathlib.Core.Path.{◌≡◌, refl, sym, subst}
+use mathlib.Core.Path.{◌≡◌, refl}
 use mathlib.Core.Bool.{false, ◌||◌}
-use Prim.Native.Nat.{ℕ, ◌+◌, ◌^◌, ◌≤◌, ◌<◌}
+use Prim.Native.Nat.{ℕ, ◌+◌, ◌≤◌}
 use native.Mathlib.Omega.{arith}
 use lib.IntN.{ℤ, pos, neg_ℤ, nat_abs, ◌+ℤ◌, ◌-ℤ◌}
 use lib.Signed.{lt_z}
-use mir.Syntax.{w64}
-use mir.Val.{SFits}
-use mir.Facts.{to_z-of_z}
-use Rattle.reasoning.proofs.Answers.{both_no}
 use Rattle.reasoning.proofs.Whole.{Is, is_pos, is_add, is_minus, is_abs, same}
 use Rattle.reasoning.proofs.Indexed.{Indexed, indexed}
-use Rattle.units.proofs.Machine.{Raised, raised}
 
 pub counted : (lo : ℕ) {z : ℤ} {i : ℕ} → Is z i lo → i ≡ nat_abs (z +ℤ pos lo)
 counted lo {z} {i} h = omega (arith, is_abs (is_add h (is_pos lo)) (omega arith))
@@ -29,11 +24,3 @@ module _ (lo hi : ℕ) (z : ℤ) (h : (lt_z z (neg_ℤ (pos lo)) || lt_z (pos hi
 -- a count gives the number whose count it is
 pub back_count : (lo n : ℕ) → nat_abs (pos n -ℤ pos lo +ℤ pos lo) ≡ n
 back_count lo n = let m = is_abs (is_add (is_minus (is_pos n) (is_pos lo)) (is_pos lo)) in omega (arith, m (omega arith))
-
--- a number that document 01's test lets through is raised by lo, and loses nothing
-pub raised_by : (lo hi : ℕ) {z : ℤ} → lo + hi < 2 ^ 63 → SFits w64 z → (lt_z z (neg_ℤ (pos lo)) || lt_z (pos hi) z) ≡ false → Raised w64 w64 lo hi z
-raised_by lo hi {z} small f h =
-    let back = sym (to_z-of_z f) in
-    let n = both_no (lt_z z (neg_ℤ (pos lo))) (lt_z (pos hi) z) h in
-    raised w64 w64 lo hi small (omega arith) f
-    (subst (λ (x : ℤ). lt_z x (neg_ℤ (pos lo)) ≡ false) back n.0) (subst (λ (x : ℤ). lt_z (pos hi) x ≡ false) back n.1)

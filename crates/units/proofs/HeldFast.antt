@@ -3,17 +3,13 @@ use mathlib.Core.Path.{◌≡◌, refl, ap}
 use mathlib.Core.Bool.{cond}
 use Prim.Native.Nat.{ℕ}
 use lib.Dec.{eqb}
-use lib.IntN.{ℤ}
+use Rattle.std.specs.Prelude.{Result, Ok, Err}
 use Rattle.reasoning.proofs.HeldFast.{Held, by_facts, one, one_said}
 use Rattle.reasoning.specs.Answer.{Answer, value, refused}
 use Rattle.units.specs.declared.refusal.Refusal.{Refusal}
 use Rattle.units.specs.declared.refusal.Refusal.TheVariants.{YearOutside, DayOrMinuteOutside, TermAbove, LongitudeBeyond, TangentAbove, TooShort, RecordCutOff, KindUnknown, FieldOutside, OutOfTurn, NotAYear, YearAbsent}
-use Rattle.units.specs.declared.answer.Number.{Number}
-use Rattle.units.specs.declared.answer.Number.TheVariants as number
-use Rattle.units.specs.declared.answer.Signed.{Signed}
-use Rattle.units.specs.declared.answer.Signed.TheVariants as signed
-use Rattle.units.specs.Said.{number_of, said_number, said_signed}
-use Rattle.units.specs.contracts.refusal.refusal_number as refusal-number
+use Rattle.units.specs.Said.{number_of, said}
+use Rattle.units.specs.contracts.refusal.U64FromRefusal.from as refusal-number
 use Rattle.units.specs.contracts.index.year_index as year-index
 use Rattle.units.specs.contracts.index.day_index as day-index
 use Rattle.units.specs.contracts.index.no_room as no_room
@@ -54,21 +50,19 @@ refusal_back OutOfTurn = refl
 refusal_back NotAYear = refl
 refusal_back YearAbsent = refl
 
-abbrev pub number_back : Answer ℕ → Number
-number_back (value n) = number.Is n
-number_back (refused k) = number.Refused (refusal_of k)
+-- of an answer whose value can be taken back from what it stands for
+abbrev pub answer_of : {T A : Type 0} → (A → T) → Answer A → Result T Refusal
+answer_of back (value v) = Ok (back v)
+answer_of back (refused k) = Err (refusal_of k)
 
-pub number_back_lem : (r : Number) → number_back (said_number r) ≡ r
-number_back_lem (number.Is n) = refl
-number_back_lem (number.Refused r) = ap number.Refused (refusal_back r)
+pub answer_back : {T A : Type 0} (values : T → A) (back : A → T) → ((t : T) → back (values t) ≡ t) → (r : Result T Refusal) → answer_of back (said values r) ≡ r
+answer_back values back same (Ok v) = ap Ok (same v)
+answer_back values back same (Err r) = ap Err (refusal_back r)
 
-abbrev pub signed_back : Answer ℤ → Signed
-signed_back (value z) = signed.Is z
-signed_back (refused k) = signed.Refused (refusal_of k)
-
-pub signed_back_lem : (r : Signed) → signed_back (said_signed r) ≡ r
-signed_back_lem (signed.Is z) = refl
-signed_back_lem (signed.Refused r) = ap signed.Refused (refusal_back r)
+-- two answers that say the same are the same
+pub one_answer : {T A : Type 0} (values : T → A) (back : A → T) → ((t : T) → back (values t) ≡ t) → {a : Answer A} {r s : Result T Refusal}
+    → said values r ≡ a → said values s ≡ a → r ≡ s
+one_answer values back same p q = one_said (said values) (answer_of back) (answer_back values back same) p q
 
 -- ---- the functions
 
@@ -76,10 +70,10 @@ pub refusal_number_held : Held refusal-number.ended (λ M 𝓤. refusal-number.c
 refusal_number_held M 𝓤 𝓛 mem run κs a = by_facts 𝓤 (λ z z' w w' p q. (one p q, refl))
 
 pub year_index_held : Held year-index.ended (λ M 𝓤. year-index.clauses {M = M} {𝓤 = 𝓤})
-year_index_held M 𝓤 𝓛 mem run κs a = by_facts 𝓤 (λ z z' w w' p q. (one_said said_number number_back number_back_lem p q, refl))
+year_index_held M 𝓤 𝓛 mem run κs a = by_facts 𝓤 (λ z z' w w' p q. (one_answer (λ n. n) (λ n. n) (λ n. refl) p q, refl))
 
 pub day_index_held : Held day-index.ended (λ M 𝓤. day-index.clauses {M = M} {𝓤 = 𝓤})
-day_index_held M 𝓤 𝓛 mem run κs a = by_facts 𝓤 (λ z z' w w' p q. (one_said said_number number_back number_back_lem p q, refl))
+day_index_held M 𝓤 𝓛 mem run κs a = by_facts 𝓤 (λ z z' w w' p q. (one_answer (λ n. n) (λ n. n) (λ n. refl) p q, refl))
 
 pub no_room_held : Held no_room.ended (λ M 𝓤. no_room.clauses {M = M} {𝓤 = 𝓤})
 no_room_held M 𝓤 𝓛 mem run κs a = by_facts 𝓤 (λ z z' w w' p q. (one p q, refl))

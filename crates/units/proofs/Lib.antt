@@ -1,3 +1,4 @@
+pub mod Circle
 pub mod Clock
 pub mod IndexAnswers
 pub mod Machine

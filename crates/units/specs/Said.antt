@@ -1,12 +1,8 @@
 -- What this crate's answers say, in document 01's numbers. Assumes nothing.
-use Rattle.std.specs.Prelude.{ℕ, ℤ}
+use Rattle.std.specs.Prelude.{ℕ, ℤ, Result, Ok, Err}
 use Rattle.reasoning.specs.Answer.{Answer, value, refused}
 use Rattle.units.specs.declared.refusal.Refusal.{Refusal}
 use Rattle.units.specs.declared.refusal.Refusal.TheVariants.{YearOutside, DayOrMinuteOutside, TermAbove, LongitudeBeyond, TangentAbove, TooShort, RecordCutOff, KindUnknown, FieldOutside, OutOfTurn, NotAYear, YearAbsent}
-use Rattle.units.specs.declared.answer.Number.{Number}
-use Rattle.units.specs.declared.answer.Number.TheVariants as number
-use Rattle.units.specs.declared.answer.Signed.{Signed}
-use Rattle.units.specs.declared.answer.Signed.TheVariants as signed
 
 -- the table of refusal numbers
 abbrev pub number_of : Refusal → ℕ
@@ -23,10 +19,13 @@ number_of OutOfTurn = 10
 number_of NotAYear = 11
 number_of YearAbsent = 12
 
-abbrev pub said_number : Number → Answer ℕ
-said_number (number.Is n) = value n
-said_number (number.Refused r) = refused (number_of r)
+-- an answer whose value stands for this
+abbrev pub said : {T A : Type 0} → (T → A) → Result T Refusal → Answer A
+said values (Ok v) = value (values v)
+said values (Err r) = refused (number_of r)
 
-abbrev pub said_signed : Signed → Answer ℤ
-said_signed (signed.Is z) = value z
-said_signed (signed.Refused r) = refused (number_of r)
+abbrev pub said_number : Result ℕ Refusal → Answer ℕ
+said_number = said (λ n. n)
+
+abbrev pub said_signed : Result ℤ Refusal → Answer ℤ
+said_signed = said (λ z. z)

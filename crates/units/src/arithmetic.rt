@@ -4,7 +4,7 @@ ghost use Rattle.law.specs.Round.{half_up};
 ghost use Rattle.law.specs.Document.{circle, in_circle};
 
 // A circle, in units.
-const CIRCLE: u64 = 1_296_000 * 60_000_000;
+const CIRCLE: i64 = 1_296_000 * 60_000_000;
 
 // n / d, half or more rounded up; 0 where d is 0.
 pub fn half_up(n: u64, d: u64) -> u64
@@ -25,19 +25,13 @@ pub fn half_up(n: u64, d: u64) -> u64
 pub fn size(z: i64) -> u64
     ensures { result ≡ nat_abs z }
 {
-    if z < 0 {
-        return ((-(z + 1)) as u64) + 1;
-    }
-    z as u64
+    z.unsigned_abs()
 }
 
 // An angle of either sign, in units, brought into the circle: never negative, and never the circle itself.
+#[tactic(auto, using(crate::proofs::Circle::taken))]
 pub fn in_circle(z: i64) -> u64
     ensures { (result ≡ in_circle z) × (result < circle) }
 {
-    let size = size(z);
-    if z < 0 {
-        return CIRCLE - 1 - (size - 1) % CIRCLE;
-    }
-    size % CIRCLE
+    z.rem_euclid(CIRCLE) as u64
 }

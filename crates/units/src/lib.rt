@@ -2,14 +2,12 @@
 // clock, and the edges where a signed N or day becomes a count. No public function has a `requires`.
 #![tactic(auto)]
 
-mod answer;
 mod arithmetic;
 mod index;
 mod refusal;
 mod seconds;
 
-pub use answer::{Number, Signed};
 pub use arithmetic::{half_up, in_circle, size};
 pub use index::{day_index, no_room, year_index};
-pub use refusal::{Refusal, refusal_number};
+pub use refusal::Refusal;
 pub use seconds::{ArcSeconds, ClockSeconds};

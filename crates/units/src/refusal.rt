@@ -1,10 +1,13 @@
 // Document 01's refusals, a variant for each number.
-ghost use Rattle.std.specs.Prelude.{◌≡◌};
+ghost use Rattle.std.specs.Prelude.{◌≡◌, ◌++◌, Some, codes, decimal};
 ghost use Rattle.units.specs.Said.{number_of};
 
-#[derive(Clone, Copy)]
+use std::error::Error;
+use std::fmt;
+
+#[derive(Clone, Copy, Debug, PartialEq, Eq)]
 pub enum Refusal {
-    YearOutside,
+    YearOutside = 1,
     DayOrMinuteOutside,
     TermAbove,
     LongitudeBeyond,
@@ -18,21 +21,21 @@ pub enum Refusal {
     YearAbsent,
 }
 
-pub fn refusal_number(refusal: Refusal) -> u64
-    ensures { result ≡ number_of refusal }
-{
-    match refusal {
-        Refusal::YearOutside => 1,
-        Refusal::DayOrMinuteOutside => 2,
-        Refusal::TermAbove => 3,
-        Refusal::LongitudeBeyond => 4,
-        Refusal::TangentAbove => 5,
-        Refusal::TooShort => 6,
-        Refusal::RecordCutOff => 7,
-        Refusal::KindUnknown => 8,
-        Refusal::FieldOutside => 9,
-        Refusal::OutOfTurn => 10,
-        Refusal::NotAYear => 11,
-        Refusal::YearAbsent => 12,
+// The refusal's number.
+impl From<Refusal> for u64 {
+    ghost from_gives = { λ refusal number. number ≡ number_of refusal };
+
+    fn from(refusal: Refusal) -> u64 {
+        refusal as u64
     }
 }
+
+impl fmt::Display for Refusal {
+    ghost output = { λ refusal. Some (codes "refused " ++ decimal (number_of refusal)) };
+
+    fn fmt<W: fmt::Write>(&self, f: &mut fmt::Formatter<W>) -> fmt::Result {
+        write!(f, "refused {}", u64::from(*self))
+    }
+}
+
+impl Error for Refusal {}

@@ -1,4 +1,6 @@
+pub mod MadeInOrder
 pub mod GivenTerms
+pub mod EdgesTold
 pub mod ReadForRoom
 pub mod WriteAnswers
 pub mod WorkedFits

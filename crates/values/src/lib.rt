@@ -9,4 +9,4 @@ mod write;
 pub use head::Head;
 pub use read::{ReadValues, read_values};
 pub use worked_year::write_year;
-pub use write::{Written, write_values};
+pub use write::write_values;

@@ -1,22 +1,26 @@
--- A column while it is filled from a year's terms, one place at each turn. Assumes nothing.
-use mathlib.Core.List.{List, map, ◌++◌, append-nil}
-use mathlib.Core.Path.{◌≡◌, ◌∙◌}
-use Prim.Native.Nat.{ℕ, ◌+◌, ◌<◌}
-use native.Mathlib.Omega.{arith}
-use lib.ListN.{length, get_or, set, take, drop, replicate, length-map, get_or-map}
-use lib.Seq.{take_all}
-use Rattle.reasoning.proofs.Stored.{more_stored}
+-- An array that a closure made of one part of each term is that column of the terms. Assumes nothing.
+use mathlib.Core.List.{List, map, map-id}
+use mathlib.Core.Path.{◌≡◌, sym, ◌∙◌, ap}
+use Prim.Native.Nat.{ℕ, ◌<◌}
+use denote.Param.Members.{Mut}
+use lib.ListN.{length, get_or, length-map, get_or-map}
+use Rattle.std.specs.Array.{IsFromFnResult}
+use Rattle.std.specs.Fn.{Called}
+use Rattle.reasoning.proofs.InOrder.{filled_all}
 use Rattle.law.specs.Document.{TermValues}
+use Rattle.sun.specs.declared.term.TermRecord.{TermRecord}
+use Rattle.sun.specs.Said.{values_of_term}
+use Rattle.sun.specs.Worked.{zero_record}
+use Rattle.values.proofs.MadeInOrder.{made_in_order}
 
--- its first k are those of the terms, the others 0
-abbrev pub Column : {A : Type 0} → (TermValues → A) → A → List TermValues → List A → ℕ → Type 0
-Column f zero terms column k = column ≡ take k (map f terms) ++ drop k (replicate 24 zero)
+-- the part of the term at a place
+abbrev pub part_at : {B : Type 0} → (TermValues → B) → List TermRecord → ℕ → B
+part_at part terms k = part (values_of_term (get_or terms k zero_record))
 
-module _ {A : Type 0} (f : TermValues → A) (zero : A) (terms : List TermValues) (long : length terms ≡ 24) (column : List A) where
-  pub more : (k : ℕ) (d : TermValues) (v : A) → Column f zero terms column k → k < 24 → v ≡ f (get_or terms k d) → Column f zero terms (set column k v) (k + 1)
-  more k d v c h e =
-      rw (c, e, ← get_or-map f terms k d) (more_stored (map f terms) (replicate 24 zero) k (f d) (omega (arith, length-map terms f)) h)
-
-  pub all : (k : ℕ) → k ≡ 24 → Column f zero terms column k → column ≡ map f terms
-  all k e c =
-      rw e at c ∙ (append-nil (take 24 (map f terms)) ∙ take_all 24 (map f terms) (omega (arith, length-map terms f)))
+pub column_made : {F B : Type 0} {g : Mut F (ℕ × Unit {0}) B} {f : F} (part : TermValues → B) (terms : List TermRecord) (ys : List B) → length terms ≡ 24
+    → ((i : ℕ) (y : B) (q : F) → i < 24 → Called g f (i, tt) y q → (q ≡ f) × (y ≡ part_at part terms i)) → IsFromFnResult g f ys 24 → ys ≡ map part (map values_of_term terms)
+column_made {g = g} {f = f} part terms ys long gives made =
+    sym (map-id ys)
+    ∙ (made_in_order g f (λ y. y) (part_at part terms) 24 gives ys (part (values_of_term zero_record)) made
+    ∙ sym (filled_all part (part_at part terms) (values_of_term zero_record) (map values_of_term terms) 24 (length-map terms values_of_term ∙ long)
+    (record { at = λ (i : ℕ) (l : i < 24). ap part (get_or-map values_of_term terms i zero_record) })))

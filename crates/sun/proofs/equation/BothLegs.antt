@@ -1,4 +1,4 @@
--- What both ways to a tangent share: the height and the base at the folded arc. Assumes nothing.
+-- The height and the base at the folded arc, from a sine and a cosine. Assumes nothing.
 use mathlib.Core.Path.{◌≡◌, refl, ap, ◌∙◌}
 use Prim.Native.Nat.{ℕ, ◌*◌, ◌-◌}
 use Rattle.law.specs.Round.{half_up}

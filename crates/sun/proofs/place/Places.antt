@@ -19,11 +19,11 @@ use Rattle.sun.specs.YearAndDay.{lifted_answer}
 
 -- ---- the lifted place: the mean place moved by what is said of the size at the anomaly a
 
-module _ (e y j : ℕ) {root a mean : ℕ} {said : Answer ℕ} where
-  pub place_moved : a ≡ anomaly_of y j → root ≡ root_of y → mean ≡ root + headroom + j * daily_motion → said ≡ size_answer e a
+module _ (e y j : ℕ) {a mean : ℕ} {said : Answer ℕ} where
+  pub place_moved : a ≡ anomaly_of y j → mean ≡ root_of y + headroom + j * daily_motion → said ≡ size_answer e a
       → part (moved_by mean a) said ≡ place_answer e y j
   unfolding size_answer place_answer place_of added taken moved_by
-  place_moved h r m s = rw (s, m, r, h) (go (off_table e (anomaly_of y j)) (ltb (anomaly_of y j) half))
+  place_moved h m s = rw (s, m, h) (go (off_table e (anomaly_of y j)) (ltb (anomaly_of y j) half))
     where
       lifted : ℕ
       lifted = root_of y + headroom + j * daily_motion
@@ -36,6 +36,9 @@ module _ (e y j : ℕ) {root a mean : ℕ} {said : Answer ℕ} where
       go true below = refl
       go false true = ap value (omega arith)
       go false false = ap value (omega arith)
+
+pub place_refused : (e y j : ℕ) {a k : ℕ} → a ≡ anomaly_of y j → refused k ≡ size_answer e a → refused k ≡ place_answer e y j
+place_refused e y j h s = place_moved e y j {mean = root_of y + headroom + j * daily_motion} h refl s
 
 -- ---- the document's answers, for a year and a day in range
 

@@ -7,18 +7,22 @@ use lib.IntN.{ℤ, pos, nat_abs, ◌+ℤ◌}
 use Rattle.reasoning.proofs.Indexed.{Indexed, indexed}
 use Rattle.reasoning.specs.Answer.{Answer, value, refused, refusing}
 use Rattle.law.specs.Document.{bad_year, bad_day}
-use Rattle.reasoning.proofs.Answers.{passed}
+use Rattle.reasoning.proofs.Answers.{passed, stopped}
 use Rattle.units.specs.IndexAnswers.{year_index_answer, day_index_answer}
-use Rattle.units.proofs.IndexAnswers.{day_out, year_in, year_out}
+use Rattle.units.proofs.IndexAnswers.{year_in}
 use Rattle.sun.specs.YearAndDay.{Midnights, midnights_of, midnight_answer}
 
-pub midnight_bad_year : (N d : ℤ) {k : ℕ} → refused k ≡ year_index_answer N → refused 1 ≡ midnight_answer N d
-unfolding midnight_answer
-midnight_bad_year N d e = rw (year_out N e) refl
+pub midnight_bad_year : (N d : ℤ) {k : ℕ} → refused k ≡ year_index_answer N → refused k ≡ midnight_answer N d
+unfolding midnight_answer year_index_answer
+midnight_bad_year N d e =
+    let s = stopped (bad_year N) 1 (nat_abs (N +ℤ pos 2_000)) e in
+    rw (s.test, s.is) refl
 
-pub midnight_bad_day : (N d : ℤ) {y k : ℕ} → value y ≡ year_index_answer N → refused k ≡ day_index_answer d → refused 2 ≡ midnight_answer N d
-unfolding midnight_answer
-midnight_bad_day N d e f = rw ((year_in N e).test, day_out d f) refl
+pub midnight_bad_day : (N d : ℤ) {y k : ℕ} → value y ≡ year_index_answer N → refused k ≡ day_index_answer d → refused k ≡ midnight_answer N d
+unfolding midnight_answer day_index_answer
+midnight_bad_day N d e f =
+    let s = stopped (bad_day d) 2 (nat_abs (d +ℤ pos 4)) f in
+    rw ((year_in N e).test, s.test, s.is) refl
 
 pub midnight_is : (N d : ℤ) {y j : ℕ} → value y ≡ year_index_answer N → value j ≡ day_index_answer d → value (record { y = y; j = j }) ≡ midnight_answer N d
 unfolding midnight_answer year_index_answer day_index_answer

@@ -1,7 +1,7 @@
 -- Half-up from the quotient and what it leaves: one more where the rest is half the divisor or more. Assumes nothing.
 use mathlib.Core.Path.{◌≡◌}
-use Prim.Native.Nat.{ℕ, ◌+◌, ◌*◌, ◌-◌, ◌/◌, ◌%◌, ◌≤◌, ◌<◌, ◌^◌}
-use native.Mathlib.Nat.{le-div_iff_mul-le, div-lt_iff_lt-mul, mod-lt, div-add-mod', mul-le-mul_left}
+use Prim.Native.Nat.{ℕ, ◌+◌, ◌*◌, ◌-◌, ◌/◌, ◌%◌, ◌≤◌, ◌<◌}
+use native.Mathlib.Nat.{le-div_iff_mul-le, div-lt_iff_lt-mul, mod-lt, div-add-mod'}
 use native.Mathlib.Omega.{arith}
 use Rattle.law.specs.Round.{half_up}
 
@@ -23,13 +23,3 @@ module _ (n d : ℕ) (p : 0 < d) where
       let e = div-add-mod' n d in
       let r = mod-lt n p in
       half_up_at n d (n / d + 1) p (omega arith) (omega arith)
-
-  -- one more than the quotient still fits where the number does: the divisor is then 2 or more
-  pub more_fits : d - n % d ≤ n % d → n < 2 ^ 64 → n / d + 1 < 2 ^ 64
-  more_fits h f =
-      let r = mod-lt n p in
-      let w : n / d < 2 ^ 63 = (div-lt_iff_lt-mul {k = d} p).1 (omega (arith, mul-le-mul_left (2 ^ 63) two)) in
-      omega arith
-    where
-      two : 2 ≤ d
-      two = let r = mod-lt n p in omega arith

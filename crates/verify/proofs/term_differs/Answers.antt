@@ -6,8 +6,8 @@ use Rattle.verify.proofs.term_differs.Goals as goal
 
 pub returns-then-two_at-term : goal.returns-then-two_at-term
 returns-then-two_at-term c =
-    other_day c.args.part.now c.args.at (values_of_term c.args.term) c.two_at.result c.two_at.ensures (search rules) c.requires.1 c.if-two_at-term.true
+    other_day c.args.bytes.now (values_of_term c.args.term) c.two_at.result c.two_at.ensures (search rules) c.requires c.if-two_at-term.true
 
-pub returns : goal.returns
-returns c =
-    same_day c.args.part.now c.args.at (values_of_term c.args.term) c.two_at.result c.two_at.ensures (search rules) c.if-two_at-term.false c.two_at-2.result c.two_at-2.ensures.0
+pub returns-else-two_at-term : goal.returns-else-two_at-term
+returns-else-two_at-term c =
+    same_day c.args.bytes.now (values_of_term c.args.term) c.two_at.result c.two_at.ensures (search rules) c.if-two_at-term.false c.two_at-else-two_at-term.result c.two_at-else-two_at-term.ensures.0

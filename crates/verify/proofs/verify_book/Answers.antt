@@ -1,56 +1,39 @@
 -- The years left give the verdict at each turn, once the book is found sound. Assumes nothing.
-use Rattle.std.proofs.Common.{◌≡◌, refl, sym, subst, ◌∙◌, ap, arith, ℕ, ◌+◌, ◌-◌, List, take, drop}
+use Rattle.std.proofs.Common.{sym, ap, arith}
+use Rattle.std.proofs.lemmas.Result.{err_from_is_err_and}
 use Rattle.law.specs.Document.{epicycles}
 use Rattle.book.proofs.BookSteps.{is_sound}
-use Rattle.verify.specs.declared.Verdict.{Verdict as VerdictAnswer}
-use Rattle.verify.specs.declared.Verdict.TheVariants as verdict-answer
-use Rattle.verify.specs.Verify.{Verdict, year_verdict, unless_ours, verdict_of}
-use Rattle.verify.specs.Said.{said_verdict}
 use Rattle.verify.proofs.Ours.{refused_first}
-use Rattle.verify.proofs.Turns.{Left, all_left, left_none, turn}
+use Rattle.verify.proofs.Turns.{at_start, its_turn, its_part, goes_on, stands, at_end}
 use Rattle.verify.proofs.verify_book.Goals as goal
 
--- what was said of the year's part, whose end was worked out as at + 149
-said : (s : List ℕ) (at : ℕ) {v : Verdict} → v ≡ year_verdict epicycles at (take (at + 149 - at) (drop at s)) → v ≡ year_verdict epicycles at (take 149 (drop at s))
-said s at e =
-    let own : at + 149 - at ≡ 149 = omega arith in
-    e ∙ ap (λ (n : ℕ). year_verdict epicycles at (take n (drop at s))) own
+pub returns-in_err-check_book : goal.returns-in_err-check_book
+returns-in_err-check_book c =
+    let p = err_from_is_err_and c.from_residual.result c.from_residual.ensures.1 in
+    rw (p.1, p.2) (sym (refused_first epicycles (omega arith) c.args.book.now _ _ (sym c.in_err-check_book.ensures)))
 
--- a verdict that isn't "ours" stands
-stands : (v : VerdictAnswer) (next : Verdict) → (v ≡ verdict-answer.Ours → ⊥) → said_verdict v ≡ unless_ours (said_verdict v) next
-stands verdict-answer.Ours next h = absurd (h refl)
-stands (verdict-answer.NotOurs byte) next h = refl
-stands (verdict-answer.Refused r byte) next h = refl
+pub loop-i-init : goal.loop-i-init
+loop-i-init c = at_start epicycles c.args.book.now _ _ _ (ap is_sound (sym c.in_ok-check_book.ensures)) (cc) (cc) (cc)
 
-pub returns-in-Refused : goal.returns-in-Refused
-returns-in-Refused c = sym (refused_first epicycles (omega arith) c.args.book.now _ _ (sym c.in-Refused.ensures))
-
-pub loop-at-init : goal.loop-at-init
-loop-at-init c = all_left epicycles c.args.book.now (ap is_sound (sym c.in-Sound.ensures))
-
-pub slice_bounds-year_verdict-end : goal.slice_bounds-year_verdict-end
-slice_bounds-year_verdict-end c = omega (arith, (turn epicycles c.args.book.now c.loop-at.at (omega arith) c.loop-at.invariant).room)
-
-pub year_verdict-verdict-requires : goal.year_verdict-verdict-requires
-year_verdict-verdict-requires c =
-    let at = c.loop-at.at in
-    let t = turn epicycles c.args.book.now at (omega arith) c.loop-at.invariant in
-    let own : at + 149 - at ≡ 149 = omega arith in
-    rw own (omega (arith, t.room), t.kind, t.number)
-
-pub returns-in_default : goal.returns-in_default
-returns-in_default c =
+pub year_verdict-requires : goal.year_verdict-requires
+year_verdict-requires c =
     let s = c.args.book.now in
-    let t = turn epicycles s c.loop-at.at (omega arith) c.loop-at.invariant in
-    stands c.year_verdict-verdict.result t.after c.in_default.not-Ours
-    ∙ (ap (λ (v : Verdict). unless_ours v t.after) (said s c.loop-at.at c.year_verdict-verdict.ensures) ∙ t.gives)
+    let steps = c.in-Some.ensures.steps in
+    let t = its_turn epicycles s _ _ _ _ _ c.loop-i.invariant steps.0.1.0 steps.0.1.1 in
+    let p = its_part epicycles s _ _ _ _ _ c.loop-i.invariant steps.0.1.0 steps.0.1.1 in
+    (omega (arith, t.room, steps.1), omega (arith, steps.0.1.1, c.loop-i.invariant.long), rw p t.kind, rw p t.number)
 
-pub loop-at-preserved : goal.loop-at-preserved
-loop-at-preserved c =
-    let s = c.args.book.now in
-    let t = turn epicycles s c.loop-at.at (omega arith) c.loop-at.invariant in
-    let left : t.after ≡ verdict_of epicycles s = ap (λ (v : Verdict). unless_ours v t.after) (said s c.loop-at.at c.in-Ours.ensures) ∙ t.gives in
-    subst (Left epicycles s (c.loop-at.at + 149)) left t.left
+pub returns-in-Some-year_verdict : goal.returns-in-Some-year_verdict
+returns-in-Some-year_verdict c =
+    let steps = c.in-Some.ensures.steps in
+    stands epicycles c.args.book.now _ _ _ _ _ c.loop-i.invariant steps.0.1.0 steps.0.1.1 c.in-Some-year_verdict.byte
+    (rw steps.1 at c.in-Some-year_verdict.ensures)
+
+pub loop-i-preserved : goal.loop-i-preserved
+loop-i-preserved c =
+    let steps = c.in-Some.ensures.steps in
+    goes_on epicycles c.args.book.now _ _ _ _ _ c.loop-i.invariant steps.0.1.0 steps.0.1.1 _ _ steps.0.0 steps.2
+    (rw steps.1 at c.in_default.ensures)
 
 pub returns : goal.returns
-returns c = left_none epicycles c.args.book.now c.loop-at.at (omega arith) c.loop-at.invariant
+returns c = at_end epicycles c.args.book.now _ _ _ c.loop-i.invariant c.in-None.ensures.steps.0.1.0

@@ -1,12 +1,11 @@
 -- The years left give the verdict at each turn. Assumes nothing.
-use Rattle.std.proofs.Common.{◌-◌, length}
+use Rattle.std.specs.Iterator.Adapters.{enumerate_source, enumerate_count}
+use Rattle.std.specs.Slice.Iter.{chunks_exact_rest, chunks_exact_size}
 use Rattle.law.specs.Document.{epicycles}
-use Rattle.verify.specs.Verify.{verdict_of}
-use Rattle.verify.proofs.Turns.{Left}
+use Rattle.verify.proofs.Turns.{Going}
 use Rattle.verify.proofs.verify_book.Given as goal
 
-abbrev pub invariant-loop-at : goal.invariant-loop-at
-invariant-loop-at l = Left epicycles l.book l.at (verdict_of epicycles l.book)
-
-abbrev pub decreases-loop-at : goal.decreases-loop-at
-decreases-loop-at l = length l.book - l.at
+abbrev pub invariant-loop-i : goal.invariant-loop-i
+invariant-loop-i l =
+    let years = l.i-iterator in
+    Going epicycles l.book (chunks_exact_rest (enumerate_source years)) (chunks_exact_size (enumerate_source years)) (enumerate_count years)

@@ -1,5 +1,5 @@
 -- The terms that are left decide at each turn. Assumes nothing.
-use Rattle.std.proofs.Common.{◌-◌, ◌≡◌, ◌≤◌, false, length, map}
+use Rattle.std.proofs.Common.{◌≡◌, false, length, map}
 use Rattle.law.specs.Document.{epicycles}
 use Rattle.law.specs.Book.{any_bad}
 use Rattle.sun.specs.Said.{values_of_term}
@@ -8,7 +8,5 @@ use Rattle.verify.proofs.YearTurns.{terms_left}
 use Rattle.verify.proofs.year_verdict.Given as goal
 
 abbrev pub invariant-loop-k : goal.invariant-loop-k
-invariant-loop-k l = (l.k ≤ 24) × (length l.terms ≡ 24) × (any_bad (map values_of_term l.terms) ≡ false) × (terms_left l.at l.part l.terms l.k ≡ year_verdict epicycles l.at l.part)
-
-abbrev pub decreases-loop-k : goal.decreases-loop-k
-decreases-loop-k l = 24 - l.k
+invariant-loop-k l =
+    (length l.term-items ≡ 24) × (any_bad (map values_of_term l.term-items) ≡ false) × (terms_left l.at l.part l.term-items l.k ≡ year_verdict epicycles l.at l.part)

@@ -3,8 +3,8 @@ use Rattle.std.proofs.Common.{◌≡◌, ◌-◌, length}
 use Rattle.book.proofs.seek.SeekSteps.{to_seek}
 use Rattle.book.proofs.seek.seek.Given as goal
 
-abbrev pub invariant-loop-end : goal.invariant-loop-end
-invariant-loop-end l = to_seek l.y l.book l.at l.least ≡ to_seek l.y l.book 0 0
+abbrev pub invariant-loop-year : goal.invariant-loop-year
+invariant-loop-year l = to_seek l.y l.book l.last.end l.last.least ≡ to_seek l.y l.book 0 0
 
-abbrev pub decreases-loop-end : goal.decreases-loop-end
-decreases-loop-end l = length l.book - l.at
+abbrev pub decreases-loop-year : goal.decreases-loop-year
+decreases-loop-year l = length l.book - l.last.end

@@ -1,10 +1,7 @@
 -- What is left to check from term k on gives the year's answer at each turn. Assumes nothing.
-use Rattle.std.proofs.Common.{◌≡◌, ◌-◌, ◌≤◌, drop}
+use Rattle.std.proofs.Common.{◌≡◌, ◌-◌, drop}
 use Rattle.law.specs.Book.{terms_from, year_from}
 use Rattle.book.proofs.year.year_at.Given as goal
 
 abbrev pub invariant-loop-k : goal.invariant-loop-k
-invariant-loop-k l = (l.k ≤ 24) × (terms_from (24 - l.k) l.k l.i (drop l.i l.book) ≡ year_from l.least l.at (drop l.at l.book))
-
-abbrev pub decreases-loop-k : goal.decreases-loop-k
-decreases-loop-k l = 24 - l.k
+invariant-loop-k l = terms_from (24 - l.k) l.k l.end (drop l.end l.book) ≡ year_from l.least l.at (drop l.at l.book)

@@ -1,23 +1,28 @@
--- Each of the six reads takes the reading a byte further. Assumes nothing.
-use Rattle.std.proofs.Common.{arith}
+-- A byte more, where the line stays open; and what was taken and is asked. Assumes nothing.
+use Rattle.std.proofs.Common.{sym, ap, ◌∙◌, rules, arith}
+use Rattle.request.specs.First.{said_first}
+use Rattle.console.proofs.SixReads.{fewer_left}
+use Rattle.console.proofs.ReadSoFar.{unread, read_opens, read_settles, read_ends, takes_line}
 use Rattle.console.proofs.input.first_line.Goals as goal
-use Rattle.console.proofs.SixReads.{settled}
-use Rattle.console.proofs.ReadSoFar.{unread}
 
-pub returns-clause-settled : goal.returns-clause-settled
-returns-clause-settled g c =
-    let one = c.read_on-one.ensures.further 0 (omega arith, omega arith) in
-    let two = c.read_on-two.ensures.further 1 one in
-    let three = c.read_on-three.ensures.further 2 two in
-    let four = c.read_on-four.ensures.further 3 three in
-    let five = c.read_on-five.ensures.further 4 four in
-    settled c.read_on.result (c.read_on.ensures.further 5 five)
+pub loop-n-init : goal.loop-n-init
+loop-n-init g c = unread _
 
-pub returns-clause-reads : goal.returns-clause-reads
-returns-clause-reads g c =
-    let one = c.read_on-one.ensures.reads 0 _ (unread _) in
-    let two = c.read_on-two.ensures.reads 1 _ one in
-    let three = c.read_on-three.ensures.reads 2 _ two in
-    let four = c.read_on-four.ensures.reads 3 _ three in
-    let five = c.read_on-five.ensures.reads 4 _ four in
-    c.read_on.ensures.reads 5 _ five
+pub returns-then-n-eq0-clause-asked : goal.returns-then-n-eq0-clause-asked
+returns-then-n-eq0-clause-asked g c =
+    read_ends (g.R.Read.remaining c.read.new.self) _ c.read.new.buf c.line_end.ensures c.if-n-eq0.true (search rules) (search rules) (grind arith) c.loop-n.invariant
+
+pub returns-in-Asked-clause-asked : goal.returns-in-Asked-clause-asked
+returns-in-Asked-clause-asked g c =
+    read_settles (g.R.Read.remaining c.read.new.self) _ (sym (ap said_first c.in-Asked.is) ∙ c.first_line.ensures) (search rules) c.loop-n.invariant
+
+pub returns-in-Asked-clause-taken : goal.returns-in-Asked-clause-taken
+returns-in-Asked-clause-taken g c =
+    takes_line c.in-Asked.asked _ (sym (ap said_first c.in-Asked.is) ∙ c.first_line.ensures) (grind arith) (search rules) c.loop-n.invariant
+
+pub loop-n-smaller : goal.loop-n-smaller
+loop-n-smaller g c =
+    fewer_left c.loop-n.line c.in-Open.longer _ c.loop-n.invariant.most (sym (ap said_first c.in-Open.is) ∙ c.first_line.ensures) (grind arith)
+
+pub loop-n-preserved : goal.loop-n-preserved
+loop-n-preserved g c = read_opens _ (sym (ap said_first c.in-Open.is) ∙ c.first_line.ensures) (search rules) c.loop-n.invariant

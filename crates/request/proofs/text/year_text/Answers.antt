@@ -1,17 +1,12 @@
--- The parts one after the other; hour and minute have two digits since the fraction is below a day. Assumes nothing.
-use Rattle.std.proofs.Common.{ap, ◌∙◌, arith}
+-- The parts one after the other. Assumes nothing.
+use mathlib.Core.List.{append_assoc}
 use mir.Facts.{to_z-of_z}
-use Rattle.law.specs.Request.{signed_digits, year_text}
-use Rattle.request.proofs.text.Grows.{followed, grown_from}
+use Rattle.law.specs.Request.{year_text}
 use Rattle.request.proofs.text.year_text.Goals as goal
 
 pub returns : goal.returns
 unfolding year_text
 returns c =
-    let all = followed 17 c.push_number-named.ensures
-    (followed 12 c.push_two-hour.ensures
-    (followed 9 c.push_two-minute.ensures (followed 6 c.push_number.ensures c.push.ensures (omega arith)) (omega arith))
-    (omega arith)) (omega arith) in (
-      grown_from (c.signed_text.ensures.0 ∙ ap signed_digits (to_z-of_z c.ranges.n)) all,
-      omega (arith, all.within, c.signed_text.ensures.1),
-    )
+    rw (c.byte-5.ensures, c.number-2.ensures.text, c.byte-4.ensures, c.two_digits-2.ensures, c.byte-3.ensures)
+    (rw (c.two_digits.ensures, c.byte-2.ensures, c.number.ensures.text, c.byte.ensures, c.signed_text.ensures.text, to_z-of_z c.ranges.n)
+    (simp append_assoc))

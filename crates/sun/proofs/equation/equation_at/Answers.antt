@@ -5,6 +5,7 @@ use Rattle.reasoning.specs.Answer.{value}
 use Rattle.law.specs.Document.{epicycles, in_circle}
 use Rattle.units.specs.Said.{number_of}
 use Rattle.units.proofs.Machine.{negated}
+use Rattle.sun.proofs.PassedUp.{passed_up}
 use Rattle.sun.proofs.equation.Equations.{equation_added, equation_taken, equation_refused}
 use Rattle.sun.proofs.equation.equation_at.Goals as goal
 
@@ -12,20 +13,21 @@ pub returns-then-a-lt-HALF : goal.returns-then-a-lt-HALF
 returns-then-a-lt-HALF c =
     let a = c.in_circle-a.result in
     let brought : a ≡ in_circle c.args.anomaly = c.in_circle-a.ensures.0 ∙ ap in_circle (to_z-of_z c.ranges.anomaly) in
-    let said = c.in-Is.ensures in
+    let said = c.in_ok-size.ensures in
     ap value (to_z_pos w64 (omega (arith, said.1)))
-    ∙ equation_added epicycles a c.args.anomaly brought c.in-Is.size said.0 c.if-a-lt-HALF.true
+    ∙ equation_added epicycles a c.args.anomaly brought c.in_ok-size.field-0 said.0 c.if-a-lt-HALF.true
 
-pub returns-else-a-lt-HALF : goal.returns-else-a-lt-HALF
-returns-else-a-lt-HALF c =
+pub returns : goal.returns
+returns c =
     let a = c.in_circle-a.result in
     let brought : a ≡ in_circle c.args.anomaly = c.in_circle-a.ensures.0 ∙ ap in_circle (to_z-of_z c.ranges.anomaly) in
-    let said = c.in-Is.ensures in
-    ap value (negated w64 c.in-Is.size (omega (arith, said.1))).is
-    ∙ equation_taken epicycles a c.args.anomaly brought c.in-Is.size said.0 c.if-a-lt-HALF.false
+    let said = c.in_ok-size.ensures in
+    ap value (negated w64 c.in_ok-size.field-0 (omega (arith, said.1))).is
+    ∙ equation_taken epicycles a c.args.anomaly brought c.in_ok-size.field-0 said.0 c.if-a-lt-HALF.false
 
-pub returns-in-Refused : goal.returns-in-Refused
-returns-in-Refused c =
+pub returns-in_err-size : goal.returns-in_err-size
+returns-in_err-size c =
     let a = c.in_circle-a.result in
     let brought : a ≡ in_circle c.args.anomaly = c.in_circle-a.ensures.0 ∙ ap in_circle (to_z-of_z c.ranges.anomaly) in
-    equation_refused epicycles a c.args.anomaly brought (number_of c.in-Refused.refusal) c.in-Refused.ensures.0
+    passed_up (λ z. z) c.from_residual.result c.in_err-size.field-0.0 c.from_residual.ensures.1
+    ∙ equation_refused epicycles a c.args.anomaly brought (number_of c.in_err-size.field-0.0) c.in_err-size.ensures.0

@@ -6,7 +6,7 @@ use Rattle.motion.proofs.Bridge.{size_from}
 use Rattle.sun.proofs.equation.size_at.Goals as goal
 
 pub returns : goal.returns
-returns c = (
+returns g c = (
   c.angle_of.ensures.0
       ∙ size_from epicycles c.args.a c.tangent.result (c.tangent.ensures ∙ ap (tangent_of epicycles) c.mirrored.ensures.0),
   c.angle_of.ensures.1,

@@ -9,47 +9,49 @@ use Rattle.sun.specs.Walks.{Underway}
 use Rattle.sun.proofs.term.+walk.Goals as goal
 
 -- what `lifted_place` said: p is the place at j, past the mark or not
-past : {y root mark left j before count p : ℕ} (u : Underway y root mark left j before count) (e : value p ≡ place_answer epicycles y j)
+past : {y mark left j before count p : ℕ} (u : Underway y mark left j before count) (e : value p ≡ place_answer epicycles y j)
     → mark < p → Here y mark left j before count p (place_known y j e) u.some u.behind u.known
-past {y} {root} {mark} {left} {j} {before} {count} {p} u e = here y mark left j before count p (place_known y j e) u.some u.behind u.known
+past {y} {mark} {left} {j} {before} {count} {p} u e = here y mark left j before count p (place_known y j e) u.some u.behind u.known
 
-further : {y root mark left j before count p : ℕ} (u : Underway y root mark left j before count) (e : value p ≡ place_answer epicycles y j)
+further : {y mark left j before count p : ℕ} (u : Underway y mark left j before count) (e : value p ≡ place_answer epicycles y j)
     → p ≤ mark → On y mark left j before count p (place_known y j e) u.some u.behind u.known
-further {y} {root} {mark} {left} {j} {before} {count} {p} u e = on y mark left j before count p (place_known y j e) u.some u.behind u.known u.reached
+further {y} {mark} {left} {j} {before} {count} {p} u e = on y mark left j before count p (place_known y j e) u.some u.behind u.known u.reached
 
 pub overflow_sub-result : goal.overflow_sub-result
-overflow_sub-result t c = (past c.requires.0 c.in-Is.ensures.0 c.if-mark-place.true).first
+overflow_sub-result t c = (past c.requires c.in_ok-place.ensures.0 c.if-mark-place.true).first
+
+pub invariant_of-result : goal.invariant_of-result
+invariant_of-result t c =
+    let u = c.requires in
+    let h = past u c.in_ok-place.ensures.0 c.if-mark-place.true in
+    record {
+      within = omega (arith, u);
+      short = omega (arith, u.behind, c.if-mark-place.true, h.rises);
+      longest = omega (arith, h.near);
+    }
 
 pub returns-then-mark-place : goal.returns-then-mark-place
-returns-then-mark-place t c =
-    let u = c.requires.0 in
-    let h = past u c.in-Is.ensures.0 c.if-mark-place.true in
-    (ap value h.is, (omega (arith, u), omega (arith, u.behind, c.if-mark-place.true, h.rises), omega (arith, h.near)))
+returns-then-mark-place t c = ap value (past c.requires c.in_ok-place.ensures.0 c.if-mark-place.true).is
 
 pub walk-requires : goal.walk-requires
 walk-requires t c =
-    let u = c.requires.0 in
-    let f = further u c.in-Is.ensures.0 c.if-mark-place.false in (
+    let u = c.requires in
+    let f = further u c.in_ok-place.ensures.0 c.if-mark-place.false in (
       omega (arith, c.decreases, u.some),
-      (
-        record {
-          year = u.year;
-          rooted = u.rooted;
-          some = omega (arith, f.more);
-          days = omega (arith, u.days, f.more);
-          most = omega (arith, u.most, f.more);
-          reached = f.past;
-          behind = c.if-mark-place.false;
-          known = f.own;
-        },
-        c.requires.1,
-      ),
+      record {
+        some = omega (arith, f.more);
+        days = omega (arith, u.days, f.more);
+        most = omega (arith, u.most, f.more);
+        reached = f.past;
+        behind = c.if-mark-place.false;
+        known = f.own;
+      },
     )
 
-pub returns-else-mark-place : goal.returns-else-mark-place
-returns-else-mark-place t c =
-    let f = further c.requires.0 c.in-Is.ensures.0 c.if-mark-place.false in
-    (c.walk.ensures.0 ∙ ap value f.is, c.walk.ensures.1)
+pub returns : goal.returns
+returns t c =
+    let f = further c.requires c.in_ok-place.ensures.0 c.if-mark-place.false in
+    c.walk.ensures ∙ ap value f.is
 
-pub returns-in-Refused : goal.returns-in-Refused
-returns-in-Refused t c = absurd (place_given c.args.y c.args.j c.in-Refused.ensures.0)
+pub returns-in_err-place : goal.returns-in_err-place
+returns-in_err-place t c = absurd (place_given c.args.year.y c.args.j c.in_err-place.ensures.0)

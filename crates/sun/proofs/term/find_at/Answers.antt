@@ -4,26 +4,26 @@ use borrow.Author.Tests.{lt-ltb}
 use Rattle.law.specs.Document.{epicycles}
 use Rattle.motion.specs.Working.{find_answer}
 use Rattle.motion.proofs.TermAnswers.{found_value}
-use Rattle.units.proofs.Callers.{year_known, year_unknown}
+use Rattle.units.proofs.Callers.{year_known}
+use Rattle.sun.specs.Said.{values_of_found}
+use Rattle.sun.proofs.PassedUp.{passed_up, year_refused, counted_known}
 use Rattle.sun.proofs.term.find_at.Goals as goal
 
-pub returns-in_default : goal.returns-in_default
+pub returns-in_err-y : goal.returns-in_err-y
 unfolding find_answer
-returns-in_default c = (rw (year_unknown c.ranges.n c.year_index.ensures c.in_default.is) refl, tt)
+returns-in_err-y c =
+    passed_up values_of_found c.from_residual.result c.in_err-y.field-0.0 c.from_residual.ensures.1
+    ∙ year_refused _ c.ranges.n c.year_index.ensures c.in_err-y.was
 
 pub returns-then-k-gt23 : goal.returns-then-k-gt23
 unfolding find_answer
 returns-then-k-gt23 c =
-    (rw ((year_known c.ranges.n c.year_index.ensures c.in-Is.is).test, lt-ltb _ _ c.if-k-gt23.true) refl, tt)
+    rw ((year_known c.ranges.n c.year_index.ensures c.in_ok-y.was).test, lt-ltb _ _ c.if-k-gt23.true) refl
 
-pub root_of-requires : goal.root_of-requires
-root_of-requires c = (year_known c.ranges.n c.year_index.ensures c.in-Is.is).most
-
-pub find-requires : goal.find-requires
-find-requires c =
-    ((year_known c.ranges.n c.year_index.ensures c.in-Is.is).most, c.root_of.ensures.0, c.if-k-gt23.false, (c.rebuild_sines.ensures, c.tangent_table-tangents.ensures))
+pub of-requires : goal.of-requires
+of-requires c = (year_known c.ranges.n c.year_index.ensures c.in_ok-y.was).most
 
 pub returns : goal.returns
 returns c =
-    let n = year_known c.ranges.n c.year_index.ensures c.in-Is.is in
-    (c.find.ensures.0 ∙ found_value epicycles c.args.n n c.args.k (omega arith), c.find.ensures.1)
+    let n = counted_known c.ranges.n c.year_index.ensures c.in_ok-y.was c.of.ensures in
+    c.find.ensures ∙ found_value epicycles c.args.n n c.args.k (omega arith)

@@ -1,25 +1,27 @@
 -- The terms of a year inside are the document's; refusal 1 leaves none. Assumes nothing.
-use Rattle.std.proofs.Common.{ap, arith}
-use Rattle.law.specs.Document.{epicycles}
-use Rattle.units.proofs.Callers.{year_known, year_unknown}
-use Rattle.motion.specs.Working.{year_of}
+use Rattle.std.proofs.Common.{◌∙◌, map, arith}
+use Rattle.std.proofs.lemmas.Result.{IfOk-from_err}
+use Rattle.law.specs.Document.{epicycles, terms_answer}
+use Rattle.units.proofs.Callers.{year_known}
 use Rattle.motion.proofs.TermAnswers.{terms_value}
-use Rattle.sun.proofs.worked_year.WorkedAnswers.{terms_1, refused_out, worked_out}
+use Rattle.sun.specs.Said.{values_of_term}
+use Rattle.sun.proofs.PassedUp.{passed_up, year_refused, counted_known}
+use Rattle.sun.proofs.worked_year.WorkedAnswers.{worked_out}
 use Rattle.sun.proofs.worked_year.work_year.Goals as goal
 
-pub returns-in_default : goal.returns-in_default
-returns-in_default c =
-    refused_out _ c.refused_year.ensures (terms_1 epicycles c.args.n (year_unknown c.ranges.n c.year_index.ensures c.in_default.is))
+pub returns-in_err-y : goal.returns-in_err-y
+unfolding terms_answer
+returns-in_err-y c =
+    record {
+      says = passed_up (λ w. map values_of_term w.terms) c.from_residual.result c.in_err-y.field-0.0 c.from_residual.ensures.1
+          ∙ year_refused _ c.ranges.n c.year_index.ensures c.in_err-y.was;
+      values = IfOk-from_err c.from_residual.result _ c.from_residual.ensures.0;
+    }
 
-pub year_in-requires : goal.year_in-requires
-year_in-requires c = (year_known c.ranges.n c.year_index.ensures c.in-Is.is).most
-
-pub worked_in-requires : goal.worked_in-requires
-unfolding year_of
-worked_in-requires c =
-    ((year_known c.ranges.n c.year_index.ensures c.in-Is.is).most, ap (λ v. v.year_root) c.year_in.ensures)
+pub of-requires : goal.of-requires
+of-requires c = (year_known c.ranges.n c.year_index.ensures c.in_ok-y.was).most
 
 pub returns : goal.returns
 returns c =
-    let n = year_known c.ranges.n c.year_index.ensures c.in-Is.is in
-    worked_out n c.year_in.ensures c.worked_in.ensures (terms_value epicycles (omega arith) c.args.n n)
+    let n = counted_known c.ranges.n c.year_index.ensures c.in_ok-y.was c.of.ensures in
+    worked_out c.worked_in.result n c.worked_in.ensures (terms_value epicycles (omega arith) c.args.n n)

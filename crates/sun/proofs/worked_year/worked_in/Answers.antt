@@ -1,8 +1,9 @@
 -- Each turn puts the next term in its place, so that the list is the terms in order. Assumes nothing.
-use Rattle.std.proofs.Common.{◌≡◌, refl, ◌∙◌, subst, arith}
+use Rattle.std.proofs.Common.{◌≡◌, refl, ap, ◌∙◌, subst, arith}
+use Rattle.reasoning.specs.Answer.{value}
 use lib.ListN.{length-set}
 use Rattle.law.specs.Document.{epicycles}
-use Rattle.reasoning.proofs.Answers.{same_value}
+use Rattle.reasoning.proofs.Answers.{same_value, never}
 use Rattle.reasoning.proofs.InOrder.{FilledTo, filled_none, filled_more, filled_all}
 use Rattle.motion.specs.Working.{term_of}
 use Rattle.sun.specs.Said.{values_of_term}
@@ -10,15 +11,14 @@ use Rattle.sun.specs.Worked.{zero_record}
 use Rattle.sun.proofs.worked_year.worked_in.Goals as goal
 
 pub loop-k-init : goal.loop-k-init
-loop-k-init c = (omega arith, refl, filled_none values_of_term (term_of epicycles c.args.y) zero_record _)
+loop-k-init c = (refl, filled_none values_of_term (term_of epicycles c.args.counted.y) zero_record _)
 
 pub loop-k-preserved : goal.loop-k-preserved
 loop-k-preserved c =
     let l = c.loop-k in
-    let term = c.in-Is.term in (
-      omega arith,
-      length-set l.terms l.k term ∙ l.invariant.1,
-      filled_more values_of_term (term_of epicycles c.args.y) zero_record l.terms l.k term l.invariant.2 (omega (arith, l.invariant.1)) (same_value c.in-Is.ensures),
+    let term = c.in_ok-terms.field-0 in (
+      length-set l.terms l.k term ∙ l.invariant.0,
+      filled_more values_of_term (term_of epicycles c.args.counted.y) zero_record l.terms l.k term l.invariant.1 (omega (arith, l.invariant.0)) (same_value c.in_ok-terms.ensures),
     )
 
 pub returns : goal.returns
@@ -26,8 +26,10 @@ returns c =
     let l = c.loop-k in
     let e : l.k ≡ 24 = omega arith in
     record {
-      all = refl;
-      terms = filled_all values_of_term (term_of epicycles c.args.y) zero_record l.terms 24 l.invariant.1
-          (subst (FilledTo values_of_term (term_of epicycles c.args.y) zero_record l.terms) e l.invariant.2);
-      same = refl;
+      says = ap value (filled_all values_of_term (term_of epicycles c.args.counted.y) zero_record l.terms 24 l.invariant.0
+          (subst (FilledTo values_of_term (term_of epicycles c.args.counted.y) zero_record l.terms) e l.invariant.1));
+      values = c.year_in-year.ensures;
     }
+
+pub returns-in_err-terms : goal.returns-in_err-terms
+returns-in_err-terms c = absurd (never c.in_err-terms.ensures)

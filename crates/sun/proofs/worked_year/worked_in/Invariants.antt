@@ -1,5 +1,5 @@
 -- The first k places hold the first k terms. Assumes nothing.
-use Rattle.std.proofs.Common.{◌-◌, ◌≡◌, ◌≤◌, length}
+use Rattle.std.proofs.Common.{◌≡◌, length}
 use Rattle.law.specs.Document.{epicycles}
 use Rattle.reasoning.proofs.InOrder.{FilledTo}
 use Rattle.motion.specs.Working.{term_of}
@@ -8,7 +8,4 @@ use Rattle.sun.specs.Worked.{zero_record}
 use Rattle.sun.proofs.worked_year.worked_in.Given as goal
 
 abbrev pub invariant-loop-k : goal.invariant-loop-k
-invariant-loop-k l = (l.k ≤ 24) × (length l.terms ≡ 24) × FilledTo values_of_term (term_of epicycles l.y) zero_record l.terms l.k
-
-abbrev pub decreases-loop-k : goal.decreases-loop-k
-decreases-loop-k l = 24 - l.k
+invariant-loop-k l = (length l.terms ≡ 24) × FilledTo values_of_term (term_of epicycles l.counted.y) zero_record l.terms l.k

@@ -1,20 +1,24 @@
 -- The year's four values are the document's, and refusal 1 exactly outside its years. Assumes nothing.
-use Rattle.std.proofs.Common.{refl, ap, sym, ◌∙◌}
+use Rattle.std.proofs.Common.{ap, sym, ◌∙◌}
 use Rattle.reasoning.specs.Answer.{value}
-use Rattle.law.specs.Document.{year_answer}
+use Rattle.law.specs.Document.{year_values, year_answer}
 use Rattle.motion.proofs.Bridge.{year_values_is}
-use Rattle.units.proofs.Callers.{year_known, year_unknown}
+use Rattle.units.proofs.Callers.{year_known}
+use Rattle.sun.specs.Said.{values_of_year}
+use Rattle.sun.proofs.PassedUp.{passed_up, year_refused, counted_known}
 use Rattle.sun.proofs.year.year_of.Goals as goal
 
-pub returns-in_default : goal.returns-in_default
+pub returns-in_err-y : goal.returns-in_err-y
 unfolding year_answer
-returns-in_default c = rw (year_unknown c.ranges.n c.year_index.ensures c.in_default.is) refl
+returns-in_err-y c =
+    passed_up values_of_year c.from_residual.result c.in_err-y.field-0.0 c.from_residual.ensures.1
+    ∙ year_refused (value (year_values c.args.n)) c.ranges.n c.year_index.ensures c.in_err-y.was
 
-pub year_in-requires : goal.year_in-requires
-year_in-requires c = (year_known c.ranges.n c.year_index.ensures c.in-Is.is).most
+pub of-requires : goal.of-requires
+of-requires c = (year_known c.ranges.n c.year_index.ensures c.in_ok-y.was).most
 
 pub returns : goal.returns
 unfolding year_answer
 returns c =
-    let i = year_known c.ranges.n c.year_index.ensures c.in-Is.is in
+    let i = counted_known c.ranges.n c.year_index.ensures c.in_ok-y.was c.of.ensures in
     rw i.test (ap value (c.year_in.ensures ∙ sym (year_values_is i.is)))

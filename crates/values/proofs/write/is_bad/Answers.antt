@@ -1,18 +1,18 @@
--- A day has a count exactly where it may be written. Assumes nothing.
-use Rattle.std.proofs.Common.{refl, rules, w64}
+-- A day has no count exactly where it may not be written. Assumes nothing.
+use Rattle.std.proofs.Common.{◌≡◌, true, false, refl, sym, ◌∙◌, rules, w64}
 use mir.Val.{SFits}
-use Rattle.units.specs.IndexAnswers.{day_index_answer}
-use Rattle.units.specs.Said.{said_number}
-use Rattle.units.proofs.IndexAnswers.{day_out}
-use Rattle.units.proofs.Callers.{told, day_known}
+use Rattle.law.specs.Document.{bad_day}
+use Rattle.values.proofs.EdgesTold.{day_refused}
 use Rattle.values.proofs.write.is_bad.Goals as goal
 
-pub returns-in-Is : goal.returns-in-Is
-returns-in-Is c =
-    let f : SFits w64 c.args.term.day = search rules in
-    rw (day_known f c.day_index.ensures c.in-Is.is).test refl
+pub returns-then-is_err : goal.returns-then-is_err
+returns-then-is_err c =
+    let f : SFits w64 c.args.term.now.day = search rules in
+    let bad : bad_day c.args.term.now.day ≡ true = sym (day_refused f _ c.day_index.ensures) ∙ (sym c.is_err.ensures.value ∙ c.if-is_err.true) in
+    rw (c.if-is_err.true, bad) refl
 
-pub returns-in-Refused : goal.returns-in-Refused
-returns-in-Refused c =
-    let f : SFits w64 c.args.term.day = search rules in
-    rw (day_out c.args.term.day (told said_number day_index_answer f c.day_index.ensures c.in-Refused.is)) refl
+pub returns-else-is_err : goal.returns-else-is_err
+returns-else-is_err c =
+    let f : SFits w64 c.args.term.now.day = search rules in
+    let good : bad_day c.args.term.now.day ≡ false = sym (day_refused f _ c.day_index.ensures) ∙ (sym c.is_err.ensures.value ∙ c.if-is_err.false) in
+    rw good refl

@@ -35,7 +35,7 @@ overflow_sub-result c =
 pub returns-then-arc-lt0 : goal.returns-then-arc-lt0
 returns-then-arc-lt0 c =
     let h = halved c.args.self.0 c.size.result c.half_up-clock.result (search rules) c.size.ensures c.half_up-clock.ensures in
-    let w = negative w64 w64 (omega arith) h.fits c.if-arc-lt0.true in
+    let w = negative h.fits c.if-arc-lt0.true in
     let e : c.size.result ≡ suc w.short = h.sized ∙ ap nat_abs w.is in
     (negated w64 c.half_up-clock.result (omega (arith, h.most))).is
     ∙ (ap (λ m. neg_ℤ (pos m)) h.is ∙ (ap (λ m. neg_ℤ (pos ((m + 7) / 15))) e ∙ (sym (clock_west w.short) ∙ ap clock_of_arc (sym w.is))))
@@ -43,7 +43,7 @@ returns-then-arc-lt0 c =
 pub returns : goal.returns
 returns c =
     let h = halved c.args.self.0 c.size.result c.half_up-clock.result (search rules) c.size.ensures c.half_up-clock.ensures in
-    let w = positive w64 w64 (omega arith) h.fits c.if-arc-lt0.false in
+    let w = positive h.fits c.if-arc-lt0.false in
     let e : c.size.result ≡ w.long = h.sized ∙ ap nat_abs w.is in
     to_z_pos w64 (omega (arith, h.most))
     ∙ (ap pos h.is ∙ (ap (λ m. pos ((m + 7) / 15)) e ∙ (sym (clock_east w.long) ∙ ap clock_of_arc (sym w.is))))

@@ -1,2 +1,0 @@
--- What the proofs of `part_between` and `next` share.
-pub mod HandedParts

@@ -1,2 +1,0 @@
--- What the proofs of this module's functions share.
-pub mod FillAnswers
