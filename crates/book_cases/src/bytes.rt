@@ -1,4 +1,5 @@
-// Bytes of a slice at any place: 0 past its end.
+// Bytes of the input at any place: 0 past its end. The types are narrower than `book::two_at` has, so that a place and a byte to be
+// stored need no cast.
 pub(crate) fn byte_at(s: &[u8], at: usize) -> u8 {
     s.get(at).copied().unwrap_or(0)
 }

@@ -1,7 +1,7 @@
 // A damaged book in two: its later years as the sheet of corrections, the years before, or all, as the main book.
 ghost use Rattle.std.specs.Prelude.{◌≤◌, length};
 
-use crate::bytes::two_at;
+use book::two_at;
 use corrections::{CorrectedYear, corrected_year};
 use std::io;
 use std::io::Write;

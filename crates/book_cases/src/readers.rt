@@ -1,5 +1,5 @@
 // A reader opened on a book, and what it hands out at each of five calls: three years and the end, and then what stays.
-use crate::bytes::two_at;
+use book::two_at;
 use std::io;
 use std::io::Write;
 

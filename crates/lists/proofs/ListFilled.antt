@@ -1,16 +1,16 @@
 -- What a list holds once the terms of an answer are stored in its first records. Assumes nothing.
 use mathlib.Core.Bool.{Bool, true, false}
 use mathlib.Core.List.{List, [], ◌∷◌, ◌++◌, map, map-append}
-use mathlib.Core.Path.{◌≡◌, refl, sym, ◌∙◌, subst}
+use mathlib.Core.Path.{◌≡◌, refl, sym, ap, ◌∙◌, subst}
 use Prim.Native.Nat.{ℕ, zero, suc, ◌≤◌, ◌<◌}
 use borrow.Author.Tests.{lt-ltb, le-ltb}
 use lib.IntN.{ℤ}
 use lib.ListN.{length, take, drop}
-use lib.Seq.{length-take-le}
 use mir.Syntax.{w64}
 use mir.Val.{SFits}
 use mir.Facts.{to_z-of_z}
 use Rattle.std.specs.Prelude.{Result, Ok, Err}
+use Rattle.std.proofs.lemmas.List.{take-append-drop}
 use Rattle.reasoning.specs.Answer.{Answer, refusing}
 use Rattle.law.specs.Document.{bad_year, terms_answer, fill_answer}
 use Rattle.units.specs.declared.refusal.Refusal.{Refusal}
@@ -23,9 +23,9 @@ use Rattle.sun.specs.Said.{values_of_term}
 use Rattle.sun.specs.Worked.{said_worked, WorkedOut}
 use Rattle.lists.specs.Fill.{Fills}
 
--- the part of a list that is stored anew, or taken
-pub first_long : (l : List TermRecord) → 24 ≤ length l → length (take 24 l) ≡ 24
-first_long l h = length-take-le 24 l h
+-- a lent list whose first part was not stored is the list that it was
+pub list_kept : {first : List TermRecord} (l : List TermRecord) → first ≡ take 24 l → first ++ drop 24 l ≡ l
+list_kept l e = ap (λ (x : List TermRecord). x ++ drop 24 l) e ∙ take-append-drop 24 l
 
 map_drop : {A B : Type 0} (f : A → B) (n : ℕ) (l : List A) → map f (drop n l) ≡ drop n (map f l)
 map_drop f zero l = refl

@@ -7,14 +7,13 @@ use sun::TermRecord;
 use units::Refusal;
 
 // On a refusal the list stays as it was.
-#[tactic(auto, using(crate::proofs::ListFilled::first_long))]
 pub fn fill_terms(list: &mut [TermRecord], n: i64) -> Result<(), Refusal>
     ensures { Fills (fill_answer epicycles n (length list.old)) list.old list.new result }
 {
-    if list.len() < 24 {
+    let Some(first) = list.first_chunk_mut::<24>() else {
         return Err(units::no_room(n));
-    }
-    let worked = sun::work_year(n)?;
-    list[..24].copy_from_slice(&worked.terms);
+    };
+    let terms = sun::work_year(n)?.terms;
+    *first = terms;
     Ok(())
 }

@@ -4,7 +4,7 @@ ghost use Rattle.lists.specs.Read.{ListRead};
 use book::NoYear;
 use sun::TermRecord;
 use units::Refusal;
-use values::Head;
+use values::{Head, ReadValues};
 
 // The byte after the year, and its head.
 #[derive(Clone, Copy)]
@@ -15,17 +15,13 @@ pub struct ReadYear {
 
 // Its terms go into the first 24 records of the list, each count 0. Refuses 6 for the list, then as the book does. On a refusal the
 // list stays as it was.
-#[tactic(auto, using(crate::proofs::ListFilled::first_long))]
 pub fn read_year(bytes: &[u8], list: &mut [TermRecord]) -> Result<ReadYear, NoYear>
     ensures { ListRead bytes.now list.old list.new result }
 {
-    if list.len() < 24 {
+    let Some(first) = list.first_chunk_mut::<24>() else {
         return Err(NoYear::Refused(Refusal::TooShort));
-    }
-    let read = values::read_values(bytes)?;
-    list[..24].copy_from_slice(&read.terms);
-    Ok(ReadYear {
-        end: read.end,
-        head: read.head,
-    })
+    };
+    let ReadValues { end, head, terms } = values::read_values(bytes)?;
+    *first = terms;
+    Ok(ReadYear { end, head })
 }

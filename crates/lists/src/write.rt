@@ -9,13 +9,11 @@ use units::Refusal;
 use values::Head;
 
 // Nothing is written on a refusal; the later bytes stay.
-#[tactic(auto, using(crate::proofs::ListFilled::first_long))]
 pub fn write_year_from(head: Head, list: &[TermRecord], buf: &mut [u8]) -> Result<(), Refusal>
     ensures { Told (write_answer (given_year head (take 24 list.now))) buf.old buf.new result }
 {
-    if list.len() < 24 {
+    let Some(terms) = list.first_chunk::<24>() else {
         return Err(units::no_room(head.n));
-    }
-    let terms = list[..24].try_into().unwrap();
-    values::write_values(head, terms, buf)
+    };
+    values::write_values(head, *terms, buf)
 }

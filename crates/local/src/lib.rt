@@ -33,12 +33,7 @@ fn shifted(here: u64, clock: ClockSeconds) -> u64
     requires { (86_400 ≤ here) × (here ≤ 40_000_000) × (nat_abs clock.0 ≤ 43_200) }
     ensures { (pos result ≡ pos here +ℤ clock.0) × (result ≤ 50_000_000) }
 {
-    let seconds = clock.seconds();
-    let apart = units::size(seconds);
-    if seconds < 0 {
-        return here - apart;
-    }
-    here + apart
+    here.saturating_add_signed(clock.seconds())
 }
 
 fn day_at(seconds: u64) -> i64

@@ -23,13 +23,7 @@ pub(crate) struct StemAndBranch(pub(crate) u64);
 impl StemAndBranch {
     // The name so many days or years after this one.
     pub(crate) fn after(self, further: i64) -> StemAndBranch {
-        let first = self.0 % 60;
-        let steps = units::size(further) % 60;
-        if further < 0 {
-            StemAndBranch(first + 60 - steps)
-        } else {
-            StemAndBranch(first + steps)
-        }
+        StemAndBranch(self.0 % 60 + further.rem_euclid(60).unsigned_abs())
     }
 }
 

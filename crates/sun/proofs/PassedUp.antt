@@ -1,7 +1,7 @@
 -- What a `?` returns says the refusal that it was given; a year's refusal is that of each answer that tests the year first, and a year
 -- that was counted is the index of the year given. Assumes nothing.
 use mathlib.Core.Bool.{Bool, true, false}
-use mathlib.Core.Path.{◌≡◌, ap, sym, subst}
+use mathlib.Core.Path.{◌≡◌, ap}
 use Prim.Native.Nat.{ℕ}
 use native.Mathlib.Omega.{arith}
 use lib.IntN.{ℤ}
@@ -15,8 +15,11 @@ use Rattle.law.specs.Document.{bad_year}
 use Rattle.units.specs.IndexAnswers.{year_index_answer}
 use Rattle.units.specs.declared.refusal.Refusal.{Refusal}
 use Rattle.units.specs.Said.{number_of, said, said_number}
-use Rattle.units.proofs.Callers.{told, year_known}
+use Rattle.units.proofs.Callers.{told}
+use Rattle.units.proofs.IndexAnswers.{year_in}
 use Rattle.units.proofs.Machine.{read}
+use Rattle.sun.specs.declared.midnight.CountedYear.{CountedYear}
+use Rattle.sun.specs.Said.{said_counted}
 
 pub passed_up : {T A : Type 0} (values : T → A) (r : Result T Refusal) (q : Refusal) → IsErrAnd r (λ (e : Refusal). e ≡ q) → said values r ≡ refused (number_of q)
 passed_up values (Ok v) q h = absurd h
@@ -34,6 +37,10 @@ pub year_refused : {A : Type 0} {n : ℤ} {r : Result ℕ Refusal} {q : Refusal}
     → refused (number_of q) ≡ refusing (bad_year n) 1 x
 year_refused {n = n} x f e i = year_out n x (told said_number year_index_answer f e i)
 
-pub counted_known : {n : ℤ} {r : Result ℕ Refusal} {y counted : ℕ} → SFits w64 n → said_number r ≡ year_index_answer (read w64 n) → r ≡ Ok y → counted ≡ y
-    → Indexed 2_000 2_000 n counted
-counted_known {n = n} f e i c = subst (Indexed 2_000 2_000 n) (sym c) (year_known f e i)
+pub count_refused : {A : Type 0} {n : ℤ} {r : Result CountedYear Refusal} {q : Refusal} (x : Answer A) → SFits w64 n → said_counted r ≡ year_index_answer (read w64 n) → r ≡ Err q
+    → refused (number_of q) ≡ refusing (bad_year n) 1 x
+count_refused {n = n} x f e i = year_out n x (told said_counted year_index_answer f e i)
+
+pub counted_known : {n : ℤ} {r : Result CountedYear Refusal} {year : CountedYear} → SFits w64 n → said_counted r ≡ year_index_answer (read w64 n) → r ≡ Ok year
+    → Indexed 2_000 2_000 n year.y
+counted_known {n = n} f e i = year_in n (told said_counted year_index_answer f e i)

@@ -2,3 +2,4 @@
 pub mod Equations
 pub mod AngleAnswers
 pub mod BothLegs
+pub mod NearerEnd

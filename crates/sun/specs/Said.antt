@@ -1,11 +1,12 @@
 -- What this crate's answers say, in document 01's numbers. Assumes nothing.
-use Rattle.std.specs.Prelude.{Result}
+use Rattle.std.specs.Prelude.{ℕ, Result}
 use Rattle.reasoning.specs.Answer.{Answer}
 use Rattle.law.specs.Document.{YearValues, TermValues, CrossingValues}
 use Rattle.motion.specs.Working.{Find}
 use Rattle.units.specs.declared.refusal.Refusal.{Refusal}
 use Rattle.units.specs.Said.{said}
 use Rattle.sun.specs.YearAndDay.{Midnights}
+use Rattle.sun.specs.declared.midnight.CountedYear.{CountedYear}
 use Rattle.sun.specs.declared.midnight.Midnight.{Midnight}
 use Rattle.sun.specs.declared.found.Found.{Found}
 use Rattle.sun.specs.declared.term.TermRecord.{TermRecord}
@@ -18,6 +19,9 @@ values_of_year year =
 
 abbrev pub said_year : Result Year Refusal → Answer YearValues
 said_year = said values_of_year
+
+abbrev pub said_counted : Result CountedYear Refusal → Answer ℕ
+said_counted = said (λ year. year.y)
 
 abbrev pub values_of_midnight : Midnight → Midnights
 values_of_midnight at = record { y = at.year.y; j = at.day }

@@ -1,7 +1,7 @@
 // The equation of centre, document 01's steps 1 to 5. A call that works out many equations has the table of sines laid out; one that
 // needs a single equation has the two sines' entries added up. Either lends them down with the tangents.
-ghost use Rattle.std.specs.Prelude.{◌≡◌, ◌+◌, ◌*◌, ◌-◌, ◌/◌, ◌≤◌, ◌<◌, ◌^◌, IfOk};
-ghost use Rattle.law.specs.Document.{minute, ten_minutes, quarter, half, circle, radius, mirrored as mirroredArc, folded as foldedArc, sine, epicycles, equation_answer};
+ghost use Rattle.std.specs.Prelude.{◌≡◌, ◌+◌, ◌*◌, ◌-◌, ◌/◌, ◌≤◌, ◌<◌, ◌^◌, min, IfOk};
+ghost use Rattle.law.specs.Document.{minute, ten_minutes, quarter, half, circle, radius, folded, sine, epicycles, equation_answer};
 ghost use Rattle.law.specs.Entry.{sine_entry};
 ghost use Rattle.law.specs.Round.{half_up};
 ghost use Rattle.law.specs.Sines.{sines as sineTable};
@@ -16,14 +16,14 @@ const TEN_MINUTES: u64 = 10 * MINUTE;
 
 // The table of sines, laid out: whoever holds one holds the definition's.
 #[derive(Drop)]
-pub(crate) struct SineTable {
+struct SineTable {
     entries: [u64; 541],
     ghost laid: { entries ≡ sineTable },
 }
 
 // The same of the tangents.
 #[derive(Drop)]
-pub(crate) struct TangentTable {
+struct TangentTable {
     entries: [u64; 131],
     ghost laid: { entries ≡ tangentTable },
 }
@@ -49,8 +49,8 @@ pub(crate) trait Tables: Copy {
 // Both tables, lent to each equation of a call that works out many.
 #[derive(Clone, Copy)]
 pub(crate) struct Lent<'a> {
-    pub(crate) sines: &'a SineTable,
-    pub(crate) tangents: &'a TangentTable,
+    sines: &'a SineTable,
+    tangents: &'a TangentTable,
 }
 
 // For a call that needs a single equation: the two entries of the sines are added up, and there is no table of them.
@@ -60,7 +60,7 @@ pub(crate) struct AddedUp;
 impl SineTable {
     // Inlined, so that the entries are added up where the table is to stand and not copied there.
     #[inline(always)]
-    pub(crate) fn laid_out() -> SineTable {
+    fn laid_out() -> SineTable {
         let mut entries = [0; 541];
         tables::rebuild_sines(&mut entries);
         SineTable { entries }
@@ -83,7 +83,7 @@ impl SineTable {
 impl TangentTable {
     // Inlined for the same.
     #[inline(always)]
-    pub(crate) fn laid_out() -> TangentTable {
+    fn laid_out() -> TangentTable {
         TangentTable {
             entries: tables::tangent_table(),
         }
@@ -108,6 +108,20 @@ impl TangentTable {
         }
         Ok(part(t, m + 1, above, self.entries[k + 2]))
     }
+}
+
+// What f answers, lent both tables. Inlined, so that a caller is compiled as if it laid them out itself.
+#[inline(always)]
+pub(crate) fn with_tables<T, F: FnOnce(Lent<'_>) -> T>(f: F) -> T
+    requires { F.IsAlwaysCallable f }
+    ensures { (tables : _) × F.post f tables result }
+{
+    let sines = SineTable::laid_out();
+    let tangents = TangentTable::laid_out();
+    f(Lent {
+        sines: &sines,
+        tangents: &tangents,
+    })
 }
 
 impl Tables for Lent<'_> {
@@ -161,7 +175,7 @@ fn leg(sine: u64) -> u64
 
 // Steps 2 and 3 from both legs, at an arc from the perigee up to a half circle.
 fn tangent_from(u: u64, height: u64, base: u64) -> u64
-    requires { (u ≤ half) × (height ≡ height_of epicycles (foldedArc u)) × (base ≡ base_of epicycles (foldedArc u)) × (height ≤ 179_208) × (base ≤ 179_208) }
+    requires { (u ≤ half) × (height ≡ height_of epicycles (folded u)) × (base ≡ base_of epicycles (folded u)) × (height ≤ 179_208) × (base ≤ 179_208) }
     ensures { result ≡ tangent_of epicycles u }
 {
     if u <= QUARTER {
@@ -170,16 +184,13 @@ fn tangent_from(u: u64, height: u64, base: u64) -> u64
     units::half_up(2 * height * RADIUS, RADIUS + base)
 }
 
-// The arc from the perigee or the apogee, whichever is nearer.
-#[tactic(auto, using(motion::proofs::Bridge::folded_near, motion::proofs::Bridge::folded_far))]
-fn folded(u: u64) -> u64
-    requires { u ≤ half }
-    ensures { (result ≡ foldedArc u) × (result ≤ quarter) }
+// To the nearer end of the whole. Of a half circle from the perigee the ends are the perigee and the apogee; of a circle both are the
+// perigee.
+fn nearer(x: u64, whole: u64) -> u64
+    requires { x ≤ whole }
+    ensures { (result ≡ min x (whole - x)) × (2 * result ≤ whole) }
 {
-    if u <= QUARTER {
-        return u;
-    }
-    HALF - u
+    x.min(whole - x)
 }
 
 // The tangent with both legs: the base is the height at the complement of the arc.
@@ -187,7 +198,7 @@ fn tangent<T: Tables>(u: u64, tables: T) -> u64
     requires { u ≤ half }
     ensures { result ≡ tangent_of epicycles u }
 {
-    let both = tables.sine_and_cosine(folded(u));
+    let both = tables.sine_and_cosine(nearer(u, HALF));
     tangent_from(u, leg(both.sine), leg(both.cosine))
 }
 
@@ -199,24 +210,12 @@ fn part(t: u64, m: u64, below: u64, above: u64) -> u64
     m * MINUTE + (t - below) * MINUTE / (above - below)
 }
 
-// The arc from the perigee, the shorter way round.
-#[tactic(auto, using(motion::proofs::Bridge::mirrored_low, motion::proofs::Bridge::mirrored_high))]
-fn mirrored(a: u64) -> u64
-    requires { a < circle }
-    ensures { (result ≡ mirroredArc a) × (result ≤ half) }
-{
-    if a <= HALF {
-        return a;
-    }
-    CIRCLE - a
-}
-
 // The size of the equation at an anomaly in the circle.
 pub(crate) fn size_at<T: Tables>(a: u64, tables: T) -> Result<u64, Refusal>
     requires { a < circle }
     ensures { (said_number result ≡ size_answer epicycles a) × IfOk result (λ size. size ≤ 468_000_000_000) }
 {
-    tables.angle_of(tangent(mirrored(a), tables))
+    tables.angle_of(tangent(nearer(a, CIRCLE), tables))
 }
 
 // The equation at any anomaly, in units: step 5 adds it below the half circle and takes it away from there on.

@@ -2,8 +2,6 @@
 ghost use Rattle.std.specs.Prelude.{◌≡◌, ◌≤◌};
 ghost use Rattle.motion.specs.Working.{root_of};
 
-use crate::year::root_of;
-
 // The year N as y = N + 2,000.
 #[derive(Clone, Copy)]
 pub(crate) struct CountedYear {
@@ -11,18 +9,6 @@ pub(crate) struct CountedYear {
     pub(crate) root: u64,
     ghost within: { y ≤ 4_000 },
     ghost rooted: { root ≡ root_of y },
-}
-
-impl CountedYear {
-    pub(crate) fn of(y: u64) -> CountedYear
-        requires { y ≤ 4_000 }
-        ensures { result.y ≡ y }
-    {
-        CountedYear {
-            y,
-            root: root_of(y),
-        }
-    }
 }
 
 // The midnight of its day d, as d + 4.

@@ -68,12 +68,9 @@ fn moved(mean: u64, a: u64, size: u64) -> u64
 fn midnight_at(n: i64, d: i64) -> Result<Midnight, Refusal>
     ensures { said_midnight result ≡ midnight_answer n d }
 {
-    let y = units::year_index(n)?;
+    let year = CountedYear::of(n)?;
     let day = units::day_index(d)?;
-    Ok(Midnight {
-        year: CountedYear::of(y),
-        day,
-    })
+    Ok(Midnight { year, day })
 }
 
 // The run-on place at the day d of the year n, lifted.

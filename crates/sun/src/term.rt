@@ -8,7 +8,7 @@ ghost use Rattle.sun.specs.Walks.{Underway};
 ghost use Rattle.sun.specs.Said.{said_walked, said_term, said_crossing, values_of_found, values_of_term, values_of_crossing};
 
 use crate::constants::{DAILY, MINUTE};
-use crate::equation::{Lent, SineTable, TangentTable};
+use crate::equation::{Lent, with_tables};
 use crate::found::Found;
 use crate::midnight::{CountedYear, Midnight};
 use crate::place::LIFT;
@@ -123,17 +123,11 @@ fn find(year: CountedYear, k: u64, tables: Lent<'_>) -> Result<Found, Refusal>
 fn find_at(n: i64, k: u64) -> Result<Found, Refusal>
     ensures { said_walked result ≡ find_answer epicycles n k }
 {
-    let y = units::year_index(n)?;
+    let year = CountedYear::of(n)?;
     if 23 < k {
         return Err(Refusal::TermAbove);
     }
-    let sines = SineTable::laid_out();
-    let tangents = TangentTable::laid_out();
-    let tables = Lent {
-        sines: &sines,
-        tangents: &tangents,
-    };
-    find(CountedYear::of(y), k, tables)
+    with_tables(|tables| find(year, k, tables))
 }
 
 pub(crate) fn term_in(year: CountedYear, k: u64, tables: Lent<'_>) -> Result<TermRecord, Refusal>

@@ -2,7 +2,7 @@
 ghost use Rattle.law.specs.Document.{epicycles, terms_answer};
 ghost use Rattle.sun.specs.Worked.{WorkedIn, WorkedOut};
 
-use crate::equation::{Lent, SineTable, TangentTable};
+use crate::equation::{Lent, with_tables};
 use crate::midnight::CountedYear;
 use crate::term::{TermRecord, ZERO_RECORD, term_in};
 use crate::year::{Year, year_in};
@@ -14,15 +14,9 @@ pub struct WorkedYear {
     pub terms: [TermRecord; 24],
 }
 
-fn worked_in(counted: CountedYear) -> Result<WorkedYear, Refusal>
+fn worked_in(counted: CountedYear, tables: Lent<'_>) -> Result<WorkedYear, Refusal>
     ensures { WorkedIn counted.y result }
 {
-    let sines = SineTable::laid_out();
-    let tangents = TangentTable::laid_out();
-    let tables = Lent {
-        sines: &sines,
-        tangents: &tangents,
-    };
     let year = year_in(counted);
     let mut terms = [ZERO_RECORD; 24];
     for k in 0..24 {
@@ -35,6 +29,6 @@ fn worked_in(counted: CountedYear) -> Result<WorkedYear, Refusal>
 pub fn work_year(n: i64) -> Result<WorkedYear, Refusal>
     ensures { WorkedOut n (terms_answer epicycles n) result }
 {
-    let y = units::year_index(n)?;
-    worked_in(CountedYear::of(y))
+    let year = CountedYear::of(n)?;
+    with_tables(|tables| worked_in(year, tables))
 }

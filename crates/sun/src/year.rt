@@ -2,7 +2,8 @@
 ghost use Rattle.std.specs.Prelude.{◌≡◌, ◌≤◌};
 ghost use Rattle.law.specs.Document.{year_answer};
 ghost use Rattle.motion.specs.Working.{solstice_of, root_from, root_of, year_of};
-ghost use Rattle.sun.specs.Said.{values_of_year, said_year};
+ghost use Rattle.units.specs.IndexAnswers.{year_index_answer};
+ghost use Rattle.sun.specs.Said.{said_counted, values_of_year, said_year};
 
 use crate::constants::{DAILY, DAY, DAY_EPOCH, YEAR};
 use crate::midnight::CountedYear;
@@ -37,11 +38,24 @@ fn root(solstice: u64) -> u64
 }
 
 #[tactic(auto, unfolding(motion::specs::Working::root_of))]
-pub(crate) fn root_of(y: u64) -> u64
+fn root_of(y: u64) -> u64
     requires { y ≤ 4_000 }
     ensures { (result ≡ root_of y) × (result ≤ 212_899_831_014) }
 {
     root(solstice(y))
+}
+
+impl CountedYear {
+    // Of the year n, or refusal 1.
+    pub(crate) fn of(n: i64) -> Result<CountedYear, Refusal>
+        ensures { said_counted result ≡ year_index_answer n }
+    {
+        let y = units::year_index(n)?;
+        Ok(CountedYear {
+            y,
+            root: root_of(y),
+        })
+    }
 }
 
 #[tactic(auto, unfolding(motion::specs::Working::year_of, motion::specs::Working::root_of))]
@@ -62,6 +76,6 @@ pub(crate) fn year_in(counted: CountedYear) -> Year
 pub fn year_of(n: i64) -> Result<Year, Refusal>
     ensures { said_year result ≡ year_answer n }
 {
-    let y = units::year_index(n)?;
-    Ok(year_in(CountedYear::of(y)))
+    let year = CountedYear::of(n)?;
+    Ok(year_in(year))
 }

@@ -1,16 +1,20 @@
 -- A list that is too short is refused; else the year by value decides. Assumes nothing.
-use Rattle.std.proofs.Common.{arith}
+use Rattle.std.proofs.Common.{sym, subst}
 use Rattle.std.proofs.lemmas.Result.{err_from_is_err_and}
+use Rattle.lists.specs.Read.{ListRead}
+use Rattle.lists.proofs.ListFilled.{list_kept}
 use Rattle.lists.proofs.ReadAnswers.{short_list, list_unsound, list_read}
 use Rattle.lists.proofs.read.read_year.Goals as goal
 
-pub returns-then-list-lt24 : goal.returns-then-list-lt24
-returns-then-list-lt24 c = short_list c.args.bytes.now c.args.list.now (omega arith)
+pub returns-in_default : goal.returns-in_default
+returns-in_default c = short_list c.args.bytes.now c.args.list.now c.in_default.ensures.cases
 
-pub returns-in_err-read : goal.returns-in_err-read
-returns-in_err-read c =
+pub returns-in_err-end : goal.returns-in_err-end
+returns-in_err-end c =
     let p = err_from_is_err_and c.from_residual.result c.from_residual.ensures.1 in
-    rw (p.1, p.2) (list_unsound c.args.bytes.now c.args.list.now (omega arith) _ c.in_err-read.ensures)
+    let l = c.args.list.now in
+    subst (λ kept. ListRead c.args.bytes.now l kept c.from_residual.result) (sym (list_kept l c.in-Some.ensures.cases.same))
+    (rw (p.1, p.2) (list_unsound c.args.bytes.now l c.in-Some.ensures.cases.enough _ c.in_err-end.ensures))
 
 pub returns : goal.returns
-returns c = rw c.copy_from_slice.ensures.after (list_read c.args.bytes.now c.args.list.now (omega arith) _ c.in_ok-read.ensures)
+returns c = list_read c.args.bytes.now c.args.list.now c.in-Some.ensures.cases.enough _ c.in_ok-end.ensures

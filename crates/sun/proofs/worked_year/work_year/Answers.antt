@@ -1,27 +1,23 @@
 -- The terms of a year inside are the document's; refusal 1 leaves none. Assumes nothing.
-use Rattle.std.proofs.Common.{◌∙◌, map, arith}
+use Rattle.std.proofs.Common.{rules, ◌∙◌, map, arith}
 use Rattle.std.proofs.lemmas.Result.{IfOk-from_err}
 use Rattle.law.specs.Document.{epicycles, terms_answer}
-use Rattle.units.proofs.Callers.{year_known}
 use Rattle.motion.proofs.TermAnswers.{terms_value}
 use Rattle.sun.specs.Said.{values_of_term}
-use Rattle.sun.proofs.PassedUp.{passed_up, year_refused, counted_known}
+use Rattle.sun.proofs.PassedUp.{passed_up, count_refused, counted_known}
 use Rattle.sun.proofs.worked_year.WorkedAnswers.{worked_out}
 use Rattle.sun.proofs.worked_year.work_year.Goals as goal
 
-pub returns-in_err-y : goal.returns-in_err-y
+pub returns-in_err-year : goal.returns-in_err-year
 unfolding terms_answer
-returns-in_err-y c =
+returns-in_err-year c =
     record {
-      says = passed_up (λ w. map values_of_term w.terms) c.from_residual.result c.in_err-y.field-0.0 c.from_residual.ensures.1
-          ∙ year_refused _ c.ranges.n c.year_index.ensures c.in_err-y.was;
+      says = passed_up (λ w. map values_of_term w.terms) c.from_residual.result c.in_err-year.field-0.0 c.from_residual.ensures.1
+          ∙ count_refused _ c.ranges.n c.of.ensures c.in_err-year.was;
       values = IfOk-from_err c.from_residual.result _ c.from_residual.ensures.0;
     }
 
-pub of-requires : goal.of-requires
-of-requires c = (year_known c.ranges.n c.year_index.ensures c.in_ok-y.was).most
-
 pub returns : goal.returns
 returns c =
-    let n = counted_known c.ranges.n c.year_index.ensures c.in_ok-y.was c.of.ensures in
-    worked_out c.worked_in.result n c.worked_in.ensures (terms_value epicycles (omega arith) c.args.n n)
+    let n = counted_known c.ranges.n c.of.ensures c.in_ok-year.was in
+    worked_out c.with_tables.result n (search rules) (terms_value epicycles (omega arith) c.args.n n)
