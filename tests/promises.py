@@ -1,5 +1,6 @@
 """Lists what the library crates export, and fails if a public function promises nothing, asks something of its caller, or is not
-held fast: has no theorem `.._held`, which says of its generated contract that any two answers it allows are equal.
+held fast: has no theorem `.._held`, which says of its generated contract that any two answers it allows are equal. A conversion or a
+printed text must be fixed by the ghost member of its trait.
 
     python3 tests/promises.py   from the sources alone: nothing is stored here but the exceptions below
 """
@@ -79,6 +80,20 @@ def held_functions(crate):
                 yield named[alias]
 
 
+# What says of a trait's function which answer it gives, where the trait's own promise leaves it open.
+SAYS_THE_ANSWER = {"From": "from_gives", "TryFrom": "try_from_gives", "Display": "output"}
+
+
+def open_impls(crate):
+    """The impls of such traits that do not say it."""
+    for file in sorted((crate / "src").rglob("*.rt")):
+        text = without_comments_and_literals(file.read_text())
+        for impl in re.finditer(r"\bimpl\b[^{;]*?\b(From|TryFrom|Display)\b[^{;]*?\bfor\s+(\w+)[^{;]*(?=\{)", text):
+            body = text[impl.end():after_balanced(text, impl.end())]
+            if not re.search(rf"\bghost\s+{SAYS_THE_ANSWER[impl[1]]}\b", body):
+                yield f"{impl[1]} for {impl[2]}"
+
+
 def exported_name(place):
     """As a caller writes it: `ArcSeconds::of` for seconds.ArcSeconds.of."""
     *around, name = place.split(".")
@@ -106,6 +121,8 @@ def complaints(crate, functions):
             yield f"{crate.name}: {place} promises {'something, and is excepted' if 'ensures' in clauses else 'nothing'}"
         if place not in held and not is_excepted:
             yield f"{crate.name}: {place} has no theorem .._held"
+    for impl in open_impls(crate):
+        yield f"{crate.name}: {impl} does not say its answer"
 
 
 def main():
