@@ -80,8 +80,16 @@ def held_functions(crate):
                 yield named[alias]
 
 
-# What says of a trait's function which answer it gives, where the trait's own promise leaves it open.
-SAYS_THE_ANSWER = {"From": "from_gives", "TryFrom": "try_from_gives", "Display": "output"}
+# What says of a trait's function which answer it gives, where the trait's own promise leaves it open; and how it says so: a conversion by
+# an equation of what comes out with what it is made of, a printed text by a text that is there.
+SAYS_THE_ANSWER = {
+    "From": r"\bghost\s+from_gives\s*=\s*\{\s*λ\s+(?P<of>\w+)\s+(?P<out>\w+)\.\s*(?P=out)\s*≡\s*(?=[^}]*\b(?P=of)\b)(?![^}]*\b(?P=out)\b)",
+    "TryFrom": r"\bghost\s+try_from_gives\b",
+    "Display": r"\bghost\s+output\s*=\s*\{\s*λ\s+(?P<of>\w+)\.\s*Some\s*\((?=[^}]*\b(?P=of)\b)",
+}
+
+# A refusal's number goes out to C, so its conversion is held fast too, as a public function is.
+HELD_TOO = {"units": ["refusal.U64FromRefusal.from"]}
 
 
 def open_impls(crate):
@@ -90,7 +98,7 @@ def open_impls(crate):
         text = without_comments_and_literals(file.read_text())
         for impl in re.finditer(r"\bimpl\b[^{;]*?\b(From|TryFrom|Display)\b[^{;]*?\bfor\s+(\w+)[^{;]*(?=\{)", text):
             body = text[impl.end():after_balanced(text, impl.end())]
-            if not re.search(rf"\bghost\s+{SAYS_THE_ANSWER[impl[1]]}\b", body):
+            if not re.search(SAYS_THE_ANSWER[impl[1]], body):
                 yield f"{impl[1]} for {impl[2]}"
 
 
@@ -120,6 +128,9 @@ def complaints(crate, functions):
         if ("ensures" in clauses) == (f"{crate.name}.{place}" in MAY_PROMISE_NOTHING):
             yield f"{crate.name}: {place} promises {'something, and is excepted' if 'ensures' in clauses else 'nothing'}"
         if place not in held and not is_excepted:
+            yield f"{crate.name}: {place} has no theorem .._held"
+    for place in HELD_TOO.get(crate.name, []):
+        if place not in held:
             yield f"{crate.name}: {place} has no theorem .._held"
     for impl in open_impls(crate):
         yield f"{crate.name}: {impl} does not say its answer"

@@ -2,6 +2,7 @@
 use mathlib.Core.Path.{◌≡◌, sym}
 use mathlib.Core.List.{List}
 use Prim.Native.Nat.{ℕ, ◌+◌, ◌-◌, ◌≤◌, ◌<◌}
+use native.Mathlib.Decide.{dec_lt}
 use native.Mathlib.Omega.{arith}
 use lib.ListN.{length}
 use Rattle.request.specs.declared.line.Line.{Line}
@@ -19,6 +20,14 @@ goes_on line longer block s h k r =
 pub settled : (line : Line) → AtLeast 6 line → ⊥
 settled line r = omega (arith, r.0, r.1)
 
+-- so an open line has a read left
+one_left : (line : Line) → bytes_so_far line ≤ 5 → Dec (bytes_so_far line < 6) → bytes_so_far line < 6
+one_left line most (yes w) = w
+one_left line most (no w) = absurd (settled line (omega (arith, w), most))
+
 pub fewer_left : (line longer : Line) (block : List ℕ) → bytes_so_far line ≤ 5 → still longer ≡ first_after line block → 1 ≤ length block
     → 6 - bytes_so_far longer < 6 - bytes_so_far line
-fewer_left line longer block most s h = let r = goes_on line longer block s h (bytes_so_far line) (omega arith, most) in omega (arith, r.0, r.1)
+fewer_left line longer block most s h =
+    let r = goes_on line longer block s h (bytes_so_far line) (omega arith, most) in
+    let w = one_left line most (dec_lt (bytes_so_far line) 6) in
+    omega (arith, w, r.0)

@@ -1,8 +1,8 @@
 -- What seeking in the corrections says decides: found there, the main book is still checked; else the main book's own seek is the
--- answer. Assumes nothing.
+-- answer. And what is found lies within its book. Assumes nothing.
 use mathlib.Core.Bool.{Bool, true, false, cond}
 use mathlib.Core.List.{List}
-use mathlib.Core.Path.{◌≡◌, refl}
+use mathlib.Core.Path.{◌≡◌, refl, sym, subst}
 use Prim.Native.Nat.{ℕ}
 use native.Mathlib.Omega.{arith}
 use lib.IntN.{ℤ}
@@ -11,7 +11,8 @@ use Rattle.law.specs.Document.{bad_year}
 use Rattle.law.specs.Index.{year_index}
 use Rattle.law.specs.Book.{Checked, sound, faulty, book_of, Sought, found, unsound, no_year, seek_in, if_sound, seek_of}
 use Rattle.corrections.specs.Corrections.{the_corrections, the_main, Corrected, found_in, unsound_in, in_neither, said_of, checked_first, else_from_main, corrected_of}
-use Rattle.book.proofs.SeekFinds.{is_found, found_or_12}
+use Rattle.book.proofs.SeekFinds.{is_found, found_or_12, found_inside}
+use Rattle.corrections.specs.Parts.{LiesWithin}
 
 -- by what seeking in the corrections says, the main book's check, and seeking in the main book
 abbrev pub by_corrections : Sought → Checked → Sought → Corrected
@@ -45,3 +46,22 @@ module _ (corrections main : List ℕ) (N : ℤ) where
   decided =
       by_cases (bad_year N) (book_of corrections) (book_of main) (seek_in (year_index N) 0 corrections) (seek_in (year_index N) 0 main)
       (found_or_12 (length corrections) (year_index N) 0 corrections)
+
+  -- ---- what is found lies within its book
+
+  in_corrections : (c : Checked) (a e : ℕ) → seek_of corrections N ≡ found a e → LiesWithin corrections main (checked_first the_main c (found_in the_corrections a e))
+  in_corrections (sound end) a e h = let w = found_inside corrections N a e h in (omega (arith, w.0), w.1)
+  in_corrections (faulty n p) a e h = tt
+
+  in_main : (x : Sought) → seek_of main N ≡ x → LiesWithin corrections main (said_of the_main x)
+  in_main (found a e) h = let w = found_inside main N a e h in (omega (arith, w.0), w.1)
+  in_main (unsound n p) h = tt
+  in_main (no_year n) h = tt
+
+  in_either : (x : Sought) → seek_of corrections N ≡ x → LiesWithin corrections main (by_corrections x (book_of main) (seek_of main N))
+  in_either (found a e) h = in_corrections (book_of main) a e h
+  in_either (unsound n p) h = tt
+  in_either (no_year n) h = in_main (seek_of main N) refl
+
+  pub lies_within : LiesWithin corrections main (corrected_of corrections main N)
+  lies_within = subst (LiesWithin corrections main) (sym decided) (in_either (seek_of corrections N) refl)

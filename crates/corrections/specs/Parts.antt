@@ -1,8 +1,8 @@
 -- What is handed out of two lent books: the answer, and the part with its place in the book that it came from. Assumes nothing.
-use Rattle.std.specs.Prelude.{List, ◌≡◌, ℕ, ℤ, Result, IfOk}
+use Rattle.std.specs.Prelude.{List, ◌≡◌, ℕ, ◌≤◌, ℤ, length, Result, IfOk}
 use Rattle.std.specs.Borrow.{Bor}
 use Rattle.law.specs.Book.{seek_of}
-use Rattle.corrections.specs.Corrections.{Corrected, said_of, corrected_of, that_one, came_from, sought_there}
+use Rattle.corrections.specs.Corrections.{Corrected, found_in, unsound_in, in_neither, said_of, corrected_of, that_one, came_from, sought_there}
 use Rattle.book.specs.Reader.{PartSought}
 use Rattle.corrections.specs.declared.Which.{Which}
 use Rattle.corrections.specs.declared.CorrectedYear.{CorrectedYear}
@@ -21,3 +21,9 @@ pub record HandedOut (corrections main : Bor (List ℕ)) (N : ℤ) (r : Result C
 pub record HandedOf (which : Which) (lent : Bor (List ℕ)) (N : ℤ) (r : Result CorrectedYear NoYear) : Type 0 where
   pub answer : said_corrected r ≡ said_of (said_which which) (seek_of lent.now N)
   pub part : IfOk r (λ year. PartSought lent (seek_of lent.now N) year.part)
+
+-- what is found lies within its book
+abbrev pub LiesWithin : List ℕ → List ℕ → Corrected → Type 0
+LiesWithin corrections main (found_in which start end) = (start ≤ end) × (end ≤ length (that_one which corrections main))
+LiesWithin corrections main (unsound_in which number byte) = Unit
+LiesWithin corrections main (in_neither number) = Unit

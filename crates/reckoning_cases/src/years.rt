@@ -1,5 +1,6 @@
 // Mean solstices, mansions and roots; and source 003's three solstices.
 use crate::answers::Answer;
+use console::{number, refused, signed, text, two_digits};
 use std::io::Write;
 use std::{fmt, io};
 use sun::Year;
@@ -27,22 +28,24 @@ fn line(out: &mut impl Write, n: i64) -> io::Result<()> {
 }
 
 // The day name; and hour, minute and second of the fraction of a day, cut off.
-#[derive(Clone, Copy)]
-struct Clock(Year);
-
-impl fmt::Display for Clock {
-    fn fmt<W: fmt::Write>(&self, f: &mut fmt::Formatter<W>) -> fmt::Result {
-        let seconds = self.0.fraction % 1_000_000_000 * 86_400 / 1_000_000_000;
-        let hour = seconds / 3_600;
-        let minute = seconds / 60 % 60;
-        let second = seconds % 60;
-        write!(f, "{} {hour}:{minute:02}:{second:02}", self.0.day_name)
-    }
+fn clock(out: &mut impl Write, year: &Year) -> io::Result<()> {
+    let seconds = year.fraction % 1_000_000_000 * 86_400 / 1_000_000_000;
+    number(out, year.day_name)?;
+    write!(out, " {}:", seconds / 3_600)?;
+    two_digits(out, seconds / 60 % 60)?;
+    text(out, b":")?;
+    two_digits(out, seconds % 60)
 }
 
 fn beside_003(out: &mut impl Write, n: i64, printed: &str) -> io::Result<()> {
-    let days = Answer(sun::year_of(n).map(Clock));
-    writeln!(out, "003 {n}: days {days} printed {printed}")
+    text(out, b"003 ")?;
+    signed(out, n)?;
+    text(out, b": days ")?;
+    match sun::year_of(n) {
+        Ok(year) => clock(out, &year)?,
+        Err(refusal) => refused(out, refusal)?,
+    }
+    writeln!(out, " printed {printed}")
 }
 
 pub(crate) fn lines(out: &mut impl Write) -> io::Result<()> {

@@ -1,5 +1,5 @@
-// The equation of centre, document 01's steps 1 to 5. A call that works out many equations has the table of sines laid out; one that
-// needs a single equation has the two sines' entries added up. Either lends them down with the tangents.
+// The equation of centre, document 01's steps 1 to 5. A call that works out many equations has the table of sines rebuilt, and lends it
+// down with the tangents; one that needs a single equation has the two sines' entries added up, and the tangents.
 ghost use Rattle.std.specs.Prelude.{◌≡◌, ◌+◌, ◌*◌, ◌-◌, ◌/◌, ◌≤◌, ◌<◌, ◌^◌, min, IfOk};
 ghost use Rattle.law.specs.Document.{minute, ten_minutes, quarter, half, circle, radius, folded, sine, epicycles, equation_answer};
 ghost use Rattle.law.specs.Entry.{sine_entry};
@@ -14,18 +14,19 @@ use units::Refusal;
 
 const TEN_MINUTES: u64 = 10 * MINUTE;
 
-// The table of sines, laid out: whoever holds one holds the definition's.
-#[derive(Drop)]
-struct SineTable {
-    entries: [u64; 541],
-    ghost laid: { entries ≡ sineTable },
+// The table of sines, lent: whoever holds one holds the definition's. It is lent where it was rebuilt: a struct with the entries
+// themselves would stand on the stack beside them, 4 KB more.
+#[derive(Clone, Copy)]
+struct SineTable<'a> {
+    entries: &'a [u64; 541],
+    ghost laid: { entries.now ≡ sineTable },
 }
 
 // The same of the tangents.
-#[derive(Drop)]
-struct TangentTable {
-    entries: [u64; 131],
-    ghost laid: { entries ≡ tangentTable },
+#[derive(Clone, Copy)]
+struct TangentTable<'a> {
+    entries: &'a [u64; 131],
+    ghost laid: { entries.now ≡ tangentTable },
 }
 
 #[derive(Clone, Copy)]
@@ -49,25 +50,17 @@ pub(crate) trait Tables: Copy {
 // Both tables, lent to each equation of a call that works out many.
 #[derive(Clone, Copy)]
 pub(crate) struct Lent<'a> {
-    sines: &'a SineTable,
-    tangents: &'a TangentTable,
+    sines: SineTable<'a>,
+    tangents: TangentTable<'a>,
 }
 
 // For a call that needs a single equation: the two entries of the sines are added up, and there is no table of them.
 #[derive(Clone, Copy)]
 pub(crate) struct AddedUp;
 
-impl SineTable {
-    // Inlined, so that the entries are added up where the table is to stand and not copied there.
-    #[inline(always)]
-    fn laid_out() -> SineTable {
-        let mut entries = [0; 541];
-        tables::rebuild_sines(&mut entries);
-        SineTable { entries }
-    }
-
+impl<'a> SineTable<'a> {
     // The sine of an arc up to a quarter circle. The last entry has no next.
-    fn sine_of(&self, x: u64) -> u64
+    fn sine_of(self, x: u64) -> u64
         requires { x ≤ quarter }
         ensures { (result ≡ sine x) × (result ≤ 10_000_000) }
     {
@@ -80,17 +73,9 @@ impl SineTable {
     }
 }
 
-impl TangentTable {
-    // Inlined for the same.
-    #[inline(always)]
-    fn laid_out() -> TangentTable {
-        TangentTable {
-            entries: tables::tangent_table(),
-        }
-    }
-
+impl<'a> TangentTable<'a> {
     // Steps of 2,908 to 2,914 put the minute at t / 2,914 or one further.
-    fn angle_of(&self, t: u64) -> Result<u64, Refusal>
+    fn angle_of(self, t: u64) -> Result<u64, Refusal>
         ensures { (said_number result ≡ angle_answer t) × IfOk result (λ size. size ≤ 468_000_000_000) }
     {
         let last = self.entries[130];
@@ -110,18 +95,15 @@ impl TangentTable {
     }
 }
 
-// What f answers, lent both tables. Inlined, so that a caller is compiled as if it laid them out itself.
-#[inline(always)]
-pub(crate) fn with_tables<T, F: FnOnce(Lent<'_>) -> T>(f: F) -> T
-    requires { F.IsAlwaysCallable f }
-    ensures { (tables : _) × F.post f tables result }
-{
-    let sines = SineTable::laid_out();
-    let tangents = TangentTable::laid_out();
-    f(Lent {
-        sines: &sines,
-        tangents: &tangents,
-    })
+impl<'a> Lent<'a> {
+    pub(crate) fn of(sines: &'a [u64; 541], tangents: &'a [u64; 131]) -> Lent<'a>
+        requires { (sines.now ≡ sineTable) × (tangents.now ≡ tangentTable) }
+    {
+        Lent {
+            sines: SineTable { entries: sines },
+            tangents: TangentTable { entries: tangents },
+        }
+    }
 }
 
 impl Tables for Lent<'_> {
@@ -151,7 +133,8 @@ impl Tables for AddedUp {
     }
 
     fn angle_of(self, t: u64) -> Result<u64, Refusal> {
-        TangentTable::laid_out().angle_of(t)
+        let tangents = tables::tangent_table();
+        TangentTable { entries: &tangents }.angle_of(t)
     }
 }
 

@@ -8,7 +8,7 @@ ghost use Rattle.sun.specs.Walks.{Underway};
 ghost use Rattle.sun.specs.Said.{said_walked, said_term, said_crossing, values_of_found, values_of_term, values_of_crossing};
 
 use crate::constants::{DAILY, MINUTE};
-use crate::equation::{Lent, with_tables};
+use crate::equation::Lent;
 use crate::found::Found;
 use crate::midnight::{CountedYear, Midnight};
 use crate::place::LIFT;
@@ -127,7 +127,10 @@ fn find_at(n: i64, k: u64) -> Result<Found, Refusal>
     if 23 < k {
         return Err(Refusal::TermAbove);
     }
-    with_tables(|tables| find(year, k, tables))
+    let mut sines = [0; 541];
+    tables::rebuild_sines(&mut sines);
+    let tangents = tables::tangent_table();
+    find(year, k, Lent::of(&sines, &tangents))
 }
 
 pub(crate) fn term_in(year: CountedYear, k: u64, tables: Lent<'_>) -> Result<TermRecord, Refusal>

@@ -1,8 +1,12 @@
 // A year worked out by value: its four values and its 24 terms. Both tables are laid out once, and the root is worked out once.
+ghost use Rattle.std.specs.Prelude.{Ok, map, ◌≡◌};
+ghost use Rattle.reasoning.specs.InOrder.{in_order};
+ghost use Rattle.motion.specs.Working.{term_of};
 ghost use Rattle.law.specs.Document.{epicycles, terms_answer};
-ghost use Rattle.sun.specs.Worked.{WorkedIn, WorkedOut};
+ghost use Rattle.sun.specs.Said.{values_of_term};
+ghost use Rattle.sun.specs.Worked.{WorkedOut};
 
-use crate::equation::{Lent, with_tables};
+use crate::equation::Lent;
 use crate::midnight::CountedYear;
 use crate::term::{TermRecord, ZERO_RECORD, term_in};
 use crate::year::{Year, year_in};
@@ -14,21 +18,32 @@ pub struct WorkedYear {
     pub terms: [TermRecord; 24],
 }
 
-fn worked_in(counted: CountedYear, tables: Lent<'_>) -> Result<WorkedYear, Refusal>
-    ensures { WorkedIn counted.y result }
+// The terms of the year, in place.
+fn put_terms(
+    counted: CountedYear,
+    tables: Lent<'_>,
+    terms: &mut [TermRecord; 24],
+) -> Result<(), Refusal>
+    ensures { (result ≡ Ok tt) × (map values_of_term terms.new ≡ in_order (term_of epicycles counted.y) 24) }
 {
-    let year = year_in(counted);
-    let mut terms = [ZERO_RECORD; 24];
     for k in 0..24 {
         terms[k] = term_in(counted, k as u64, tables)?;
     }
-    Ok(WorkedYear { year, terms })
+    Ok(())
 }
 
 // The year n.
 pub fn work_year(n: i64) -> Result<WorkedYear, Refusal>
     ensures { WorkedOut n (terms_answer epicycles n) result }
 {
-    let year = CountedYear::of(n)?;
-    with_tables(|tables| worked_in(year, tables))
+    let counted = CountedYear::of(n)?;
+    let mut sines = [0; 541];
+    tables::rebuild_sines(&mut sines);
+    let tangents = tables::tangent_table();
+    let mut worked = WorkedYear {
+        year: year_in(counted),
+        terms: [ZERO_RECORD; 24],
+    };
+    put_terms(counted, Lent::of(&sines, &tangents), &mut worked.terms)?;
+    Ok(worked)
 }

@@ -1,6 +1,7 @@
 // A year's values into the first 149 bytes of a lent buffer; the later bytes stay.
 ghost use Rattle.std.specs.Prelude.{false, [], map, ◌≡◌, ◌≤◌, ◌<◌, length, drop};
-ghost use Rattle.law.specs.Document.{bad_year};
+ghost use Rattle.law.specs.Document.{bad_year, bad_day};
+ghost use Rattle.law.specs.Index.{year_index, day_index};
 ghost use Rattle.law.specs.Book.{two_of, bytes_of, bad_term_values, any_bad, bad_values, write_answer};
 ghost use Rattle.sun.specs.Said.{values_of_term};
 ghost use Rattle.values.specs.Said.{given_year};
@@ -39,12 +40,28 @@ fn two_bytes(n: u64) -> [u8; 2]
     (n as u16).to_be_bytes()
 }
 
+// N + 2,000. What may be written was tested: it is counted here, and in `day_index`, and not tested again.
+fn year_index(n: i64) -> u64
+    requires { bad_year n ≡ false }
+    ensures { result ≡ year_index n }
+{
+    (n + 2_000) as u64
+}
+
+// d + 4.
+fn day_index(d: i64) -> u64
+    requires { bad_day d ≡ false }
+    ensures { result ≡ day_index d }
+{
+    (d + 4) as u64
+}
+
 // The record of a head that may be written.
 fn head_record(head: Head) -> [u8; 5]
     requires { (bad_year head.n ≡ false) × (head.day_name < 256) × (head.mansion < 256) }
     ensures { result ≡ head_record head [] }
 {
-    let [high, low] = two_bytes(units::year_index(head.n).unwrap());
+    let [high, low] = two_bytes(year_index(head.n));
     [1, high, low, head.day_name as u8, head.mansion as u8]
 }
 
@@ -53,7 +70,7 @@ fn term_record(k: u8, term: TermRecord) -> [u8; 6]
     requires { bad_term_values (values_of_term term) ≡ false }
     ensures { result ≡ term_record k (values_of_term term) [] }
 {
-    let [day_high, day_low] = two_bytes(units::day_index(term.day).unwrap());
+    let [day_high, day_low] = two_bytes(day_index(term.day));
     let [minute_high, minute_low] = two_bytes(term.minute);
     [2, k, day_high, day_low, minute_high, minute_low]
 }

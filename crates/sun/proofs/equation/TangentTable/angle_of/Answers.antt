@@ -14,20 +14,25 @@ further : (l : List ℕ) (t : ℕ) → l ≡ tangents → t < tangent_entry last
 further l t e h g = (seat t h).next (omega (arith, tangent_read e (t / 2_914 + 1)))
 
 pub returns-then-last-t : goal.returns-then-last-t
-returns-then-last-t c = (angle_refused c.args.t (omega (arith, tangent_read c.args.self.now.laid last_tangent)), tt)
+returns-then-last-t c = (angle_refused c.args.t (omega (arith, tangent_read c.args.self.laid last_tangent)), tt)
 
 pub returns-then-t-last : goal.returns-then-t-last
-returns-then-t-last c = (angle_last c.args.t (omega (arith, tangent_read c.args.self.now.laid last_tangent)), omega arith)
+returns-then-t-last c = (angle_last c.args.t (omega (arith, tangent_read c.args.self.laid last_tangent)), omega arith)
 
 pub bounds-self-k : goal.bounds-self-k
 bounds-self-k c =
-    let here = seat c.args.t (omega (arith, tangent_read c.args.self.now.laid last_tangent)) in
+    let here = seat c.args.t (omega (arith, tangent_read c.args.self.laid last_tangent)) in
+    omega (arith, here.small)
+
+pub bounds-self-k-then-t-above : goal.bounds-self-k-then-t-above
+bounds-self-k-then-t-above c =
+    let here = seat c.args.t (omega (arith, tangent_read c.args.self.laid last_tangent)) in
     omega (arith, here.small)
 
 pub part-requires : goal.part-requires
 part-requires c =
     let m = c.args.t / 2_914 in
-    let e = c.args.self.now.laid in
+    let e = c.args.self.laid in
     let here = seat c.args.t (omega (arith, tangent_read e last_tangent)) in (
       here.small,
       omega (arith, tangent_read e m, here.reached),
@@ -39,7 +44,7 @@ pub returns-then-t-above : goal.returns-then-t-above
 returns-then-t-above c =
     let t = c.args.t in
     let m = t / 2_914 in
-    let e = c.args.self.now.laid in
+    let e = c.args.self.laid in
     let here = seat t (omega (arith, tangent_read e last_tangent)) in (
       ap value c.part.ensures.0
           ∙ angle_inside t m _ _ here.small (tangent_read e m) (tangent_read e (m + 1)) (omega (arith, tangent_read e m, here.reached)) c.if-t-above.true,
@@ -48,14 +53,14 @@ returns-then-t-above c =
 
 pub bounds-self-k-2 : goal.bounds-self-k-2
 bounds-self-k-2 c =
-    let f = further c.args.self.now.entries c.args.t c.args.self.now.laid (omega (arith, tangent_read c.args.self.now.laid last_tangent)) c.if-t-above.false in
+    let f = further c.args.self.entries.now c.args.t c.args.self.laid (omega (arith, tangent_read c.args.self.laid last_tangent)) c.if-t-above.false in
     omega (arith, f.0)
 
 pub part-requires-2 : goal.part-requires-2
 part-requires-2 c =
     let m = c.args.t / 2_914 in
-    let e = c.args.self.now.laid in
-    let f = further c.args.self.now.entries c.args.t e (omega (arith, tangent_read e last_tangent)) c.if-t-above.false in (
+    let e = c.args.self.laid in
+    let f = further c.args.self.entries.now c.args.t e (omega (arith, tangent_read e last_tangent)) c.if-t-above.false in (
       f.0,
       c.if-t-above.false,
       omega (arith, tangent_read e (m + 2), f.1),
@@ -66,8 +71,8 @@ pub returns : goal.returns
 returns c =
     let t = c.args.t in
     let m = t / 2_914 in
-    let e = c.args.self.now.laid in
-    let f = further c.args.self.now.entries t e (omega (arith, tangent_read e last_tangent)) c.if-t-above.false in
+    let e = c.args.self.laid in
+    let f = further c.args.self.entries.now t e (omega (arith, tangent_read e last_tangent)) c.if-t-above.false in
     let i : m + 1 + 1 ≡ m + 2 = omega arith in (
       ap value c.part-2.ensures.0
           ∙ angle_inside t (m + 1) _ _ f.0 (tangent_read e (m + 1)) (tangent_read e (m + 2) ∙ ap tangent_entry (sym i)) c.if-t-above.false
