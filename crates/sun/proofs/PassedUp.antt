@@ -1,7 +1,7 @@
 -- What a `?` returns says the refusal that it was given; a year's refusal is that of each answer that tests the year first, and a year
 -- that was counted is the index of the year given. Assumes nothing.
 use mathlib.Core.Bool.{Bool, true, false}
-use mathlib.Core.Path.{◌≡◌, ap}
+use mathlib.Core.Path.{◌≡◌, refl, ap}
 use Prim.Native.Nat.{ℕ}
 use native.Mathlib.Omega.{arith}
 use lib.IntN.{ℤ}
@@ -40,6 +40,16 @@ year_refused {n = n} x f e i = year_out n x (told said_number year_index_answer 
 pub count_refused : {A : Type 0} {n : ℤ} {r : Result CountedYear Refusal} {q : Refusal} (x : Answer A) → SFits w64 n → said_counted r ≡ year_index_answer (read w64 n) → r ≡ Err q
     → refused (number_of q) ≡ refusing (bad_year n) 1 x
 count_refused {n = n} x f e i = year_out n x (told said_counted year_index_answer f e i)
+
+-- what is not counted is outside
+pub count_out : {A : Type 0} {n : ℤ} {r : Result CountedYear Refusal} {q : Refusal} (x : Answer A) → SFits w64 n → said_counted r ≡ year_index_answer (read w64 n) → r ≡ Err q
+    → refused 1 ≡ refusing (bad_year n) 1 x
+unfolding year_index_answer
+count_out {n = n} x f e i = go (bad_year n) (told said_counted year_index_answer f e i)
+  where
+    go : {k : ℕ} (b : Bool) → refused k ≡ refusing b 1 (value (year_index n)) → refused 1 ≡ refusing b 1 x
+    go true h = refl
+    go false h = absurd (let z : ◌≡◌ {A = ℕ} 0 1 = cc in omega arith)
 
 pub counted_known : {n : ℤ} {r : Result CountedYear Refusal} {year : CountedYear} → SFits w64 n → said_counted r ≡ year_index_answer (read w64 n) → r ≡ Ok year
     → Indexed 2_000 2_000 n year.y

@@ -36,7 +36,9 @@ fn put_terms(
 pub fn work_year(n: i64) -> Result<WorkedYear, Refusal>
     ensures { WorkedOut n (terms_answer epicycles n) result }
 {
-    let counted = CountedYear::of(n)?;
+    let Ok(counted) = CountedYear::of(n) else {
+        return Err(Refusal::YearOutside);
+    };
     let mut sines = [0; 541];
     tables::rebuild_sines(&mut sines);
     let tangents = tables::tangent_table();
