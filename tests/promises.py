@@ -83,9 +83,9 @@ def held_functions(crate):
 # What says of a trait's function which answer it gives, where the trait's own promise leaves it open; and how it says so: a conversion by
 # an equation of what comes out with what it is made of, a printed text by a text that is there.
 SAYS_THE_ANSWER = {
-    "From": r"\bghost\s+from_gives\s*=\s*\{\s*λ\s+(?P<of>\w+)\s+(?P<out>\w+)\.\s*(?P=out)\s*≡\s*(?=[^}]*\b(?P=of)\b)(?![^}]*\b(?P=out)\b)",
-    "TryFrom": r"\bghost\s+try_from_gives\b",
-    "Display": r"\bghost\s+output\s*=\s*\{\s*λ\s+(?P<of>\w+)\.\s*Some\s*\((?=[^}]*\b(?P=of)\b)",
+    "From": r"\bghost\s+from_gives\s*=\s*\{\s*λ\s+(?P<of>[a-z]\w*)\s+(?P<out>\w+)\.\s*(?P=out)\s*≡\s*(?=[^}]*\b(?P=of)\b)(?![^}]*(?:\b(?P=out)\b|[⊎→×]))",
+    "TryFrom": r"(?!)",  # there is none, and what it would have to say is not known here
+    "Display": r"\bghost\s+output\s*=\s*\{\s*λ\s+(?P<of>[a-z]\w*)\.\s*Some\s*\((?=[^}]*\b(?P=of)\b)",
 }
 
 # A refusal's number goes out to C, so its conversion is held fast too, as a public function is.
