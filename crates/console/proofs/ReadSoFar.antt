@@ -1,6 +1,6 @@
 -- Each read takes the reading of a first line a byte further: what was taken is of that line, and what is asked stays what document 01
 -- says of the whole input. Assumes nothing.
-use Rattle.std.proofs.Common.{◌≡◌, refl, sym, ap, ◌∙◌, subst, ℕ, ℤ, ◌-◌, ◌<◌, ◌≤◌, List, [], ◌∷◌, ◌++◌, append-nil, length, length-append, take, Option, None, Some, IfSome, All, eqb, arith}
+use Rattle.std.proofs.Common.{◌≡◌, refl, sym, ap, ◌∙◌, subst, ℕ, ℤ, ◌+◌, ◌-◌, ◌<◌, ◌≤◌, List, [], ◌∷◌, ◌++◌, append-nil, length, length-append, take, Option, None, Some, IfSome, All, eqb, arith}
 use Rattle.std.proofs.Math.Seq.{take-append_seam}
 use Rattle.std.proofs.lemmas.Bool.{eqb-false}
 use Rattle.std.proofs.lemmas.List.Elements.{All-append, All-cons, All-nil, All-take}
@@ -19,6 +19,7 @@ use Rattle.request.proofs.InBlocks.{joined}
 use Rattle.request.proofs.FirstLine.{or_else, asked_over, first_in_blocks}
 use Rattle.request.proofs.OpenLine.{bytes_so_far, still_open}
 use Rattle.console.specs.FirstLine.{NoNewline, TakesOfLine}
+use Rattle.console.proofs.SixReads.{goes_on}
 
 -- ---- what is asked
 
@@ -76,11 +77,13 @@ stops taken (b ∷ c ∷ bs) h all = absurd (omega (arith, h))
 
 -- ---- while the line is open
 
--- what was taken of an input is the line so far, and what the rest makes of it is what document 01 says of the whole input
-pub record ReadSoFar (input left : Option (List ℕ)) (line : Line) : Type 0 where
+-- after so many reads what was taken of an input is the line so far, and what the rest makes of it is what document 01 says of the whole
+-- input
+pub record ReadSoFar (reads : ℕ) (input left : Option (List ℕ)) (line : Line) : Type 0 where
   pub taken : List ℕ
   pub consumed : Consumes input left taken
   pub count : length taken ≡ bytes_so_far line
+  pub each : reads ≤ bytes_so_far line
   pub most : bytes_so_far line ≤ 5
   pub within : All NoNewline taken
   pub asked : IfSome input (λ bytes. IfSome left (λ rest. asked_over line (rest ∷ []) ≡ first_asks bytes))
@@ -89,9 +92,9 @@ unread_asks : (input : Option (List ℕ)) → IfSome input (λ bytes. IfSome inp
 unread_asks None = tt
 unread_asks (Some bytes) = whole bytes
 
-pub unread : (input : Option (List ℕ)) → ReadSoFar input input Empty
+pub unread : (input : Option (List ℕ)) → ReadSoFar 0 input input Empty
 unread input =
-    record { taken = []; consumed = Consumes-nil input; count = refl; most = omega arith; within = All-nil NoNewline; asked = unread_asks input }
+    record { taken = []; consumed = Consumes-nil input; count = refl; each = omega arith; most = omega arith; within = All-nil NoNewline; asked = unread_asks input }
 
 -- a read of a byte or more, which leaves the line open
 opens : (input left now : Option (List ℕ)) (taken block : List ℕ) (line longer : Line) → Consumes input left taken → Consumes left now block
@@ -104,15 +107,17 @@ opens (Some bytes) (Some xs) (Some ys) taken block line longer p c e h =
     ap (λ (r : Reached). or_else r (λ next. asked_over next (ys ∷ []))) e
     ∙ (after_block line block ys ∙ subst (λ (rest : List ℕ). asked_over line (rest ∷ []) ≡ first_asks bytes) c h)
 
-pub read_opens : {input left now : Option (List ℕ)} {line longer : Line} (block : List ℕ) → still longer ≡ first_after line block → Consumes left now block
-    → ReadSoFar input left line → ReadSoFar input now longer
-read_opens {input = input} {left = left} {now = now} {line = line} {longer = longer} block e c r =
+pub read_opens : {reads : ℕ} {input left now : Option (List ℕ)} {line longer : Line} (block : List ℕ) → still longer ≡ first_after line block
+    → 1 ≤ length block → Consumes left now block → ReadSoFar reads input left line → ReadSoFar (reads + 1) input now longer
+read_opens {reads = reads} {input = input} {left = left} {now = now} {line = line} {longer = longer} block e h c r =
     let by = still_open line block longer r.most (sym e) in
+    let more = goes_on line longer block e h reads (r.each, r.most) in
     record {
       taken = r.taken ++ block;
       consumed = Consumes-trans input left now _ _ r.consumed c;
       count = rw (length-append r.taken block) (omega (arith, r.count, by.0));
-      most = by.1;
+      each = more.0;
+      most = more.1;
       within = All-append NoNewline r.taken block r.within (no_newline line block longer (sym e));
       asked = opens input left now r.taken block line longer r.consumed c e r.asked;
     }
@@ -129,8 +134,8 @@ settles (Some bytes) (Some xs) (Some ys) taken block line answer p c e h =
     ap (λ (r : Reached). or_else r (λ next. asked_over next (ys ∷ []))) e
     ∙ (after_block line block ys ∙ subst (λ (rest : List ℕ). asked_over line (rest ∷ []) ≡ first_asks bytes) c h)
 
-pub read_settles : {input left : Option (List ℕ)} (now : Option (List ℕ)) {line : Line} {answer : Answer ℤ} (block : List ℕ) → asks answer ≡ first_after line block
-    → Consumes left now block → ReadSoFar input left line → IfSome input (λ bytes. answer ≡ first_asks bytes)
+pub read_settles : {reads : ℕ} {input left : Option (List ℕ)} (now : Option (List ℕ)) {line : Line} {answer : Answer ℤ} (block : List ℕ) → asks answer ≡ first_after line block
+    → Consumes left now block → ReadSoFar reads input left line → IfSome input (λ bytes. answer ≡ first_asks bytes)
 read_settles {input = input} {left = left} now {line = line} {answer = answer} block e c r =
     settles input left now r.taken block line answer r.consumed c e r.asked
 
@@ -143,8 +148,8 @@ ends (Some bytes) (Some xs) None taken line p c end h = absurd c
 ends (Some bytes) (Some xs) (Some ys) taken line p c end h =
     sym (at_end line) ∙ (ap (λ (rest : List ℕ). asked_over line (rest ∷ [])) (sym (c ∙ end)) ∙ h)
 
-pub read_ends : {input left : Option (List ℕ)} (now : Option (List ℕ)) {line : Line} {answer : Answer ℤ} (n : ℕ) (block : List ℕ) → answer ≡ line_end line → n ≡ 0
-    → Consumes left now (take n block) → (n ≡ 0 → 0 < length block → IsAtEnd now) → 0 < length block → ReadSoFar input left line
+pub read_ends : {reads : ℕ} {input left : Option (List ℕ)} (now : Option (List ℕ)) {line : Line} {answer : Answer ℤ} (n : ℕ) (block : List ℕ) → answer ≡ line_end line → n ≡ 0
+    → Consumes left now (take n block) → (n ≡ 0 → 0 < length block → IsAtEnd now) → 0 < length block → ReadSoFar reads input left line
     → IfSome input (λ bytes. answer ≡ first_asks bytes)
 read_ends {input = input} {left = left} now {line = line} n block e z c end room r =
     let none : Consumes left now [] = subst (λ (m : ℕ). Consumes left now (take m block)) z c in
@@ -152,8 +157,8 @@ read_ends {input = input} {left = left} now {line = line} n block e z c end room
 
 -- ---- what was taken
 
-pub takes_line : {A E : Type 0} {input left now : Option (List ℕ)} {line : Line} {answer : Answer ℤ} (asked : A) (block : List ℕ)
-    → asks answer ≡ first_after line block → length block ≤ 1 → Consumes left now block → ReadSoFar input left line → TakesOfLine {E = E} input now (Ok asked)
+pub takes_line : {A E : Type 0} {reads : ℕ} {input left now : Option (List ℕ)} {line : Line} {answer : Answer ℤ} (asked : A) (block : List ℕ)
+    → asks answer ≡ first_after line block → length block ≤ 1 → Consumes left now block → ReadSoFar reads input left line → TakesOfLine {E = E} input now (Ok asked)
 takes_line {input = input} {left = left} {now = now} asked block e h c r = record {
   taken = r.taken ++ block;
   consumed = Consumes-trans input left now _ _ r.consumed c;

@@ -9,7 +9,7 @@ use std::io;
 use std::io::Read;
 use units::Refusal;
 
-// Each read makes an open line a byte longer, and the sixth byte settles what it asks. The end of the input ends the line.
+// Six reads are enough: each makes an open line a byte longer, and a sixth byte settles it. The end of the input ends the line.
 pub fn first_line<R: Read>(input: &mut R) -> io::Result<Result<i64, Refusal>>
     ensures asked { IfOk result
         (λ asked. IfSome (R.remaining input.old) (λ bytes. said_signed asked ≡ first_asks bytes)) }
@@ -17,7 +17,7 @@ pub fn first_line<R: Read>(input: &mut R) -> io::Result<Result<i64, Refusal>>
 {
     let mut block = [0u8; 1];
     let mut line = Line::Empty;
-    loop {
+    for _read in 0..6u8 {
         let n = input.read(&mut block)?;
         if n == 0 {
             return Ok(request::line_end(line));
@@ -27,4 +27,5 @@ pub fn first_line<R: Read>(input: &mut R) -> io::Result<Result<i64, Refusal>>
             First::Open(longer) => line = longer,
         }
     }
+    unreachable!()
 }

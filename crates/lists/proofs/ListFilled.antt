@@ -1,7 +1,7 @@
 -- What a list holds once the terms of an answer are stored in its first records. Assumes nothing.
 use mathlib.Core.Bool.{Bool, true, false}
 use mathlib.Core.List.{List, [], ◌∷◌, ◌++◌, map, map-append}
-use mathlib.Core.Path.{◌≡◌, refl, sym, ap, ◌∙◌, subst}
+use mathlib.Core.Path.{◌≡◌, refl, sym, ap, ◌∙◌}
 use Prim.Native.Nat.{ℕ, zero, suc, ◌≤◌, ◌<◌}
 use borrow.Author.Tests.{lt-ltb, le-ltb}
 use lib.IntN.{ℤ}
@@ -9,7 +9,7 @@ use lib.ListN.{length, take, drop}
 use mir.Syntax.{w64}
 use mir.Val.{SFits}
 use mir.Facts.{to_z-of_z}
-use Rattle.std.specs.Prelude.{Result, Ok, Err}
+use Rattle.std.specs.Prelude.{Result, Err}
 use Rattle.std.proofs.lemmas.List.{take-append-drop}
 use Rattle.reasoning.specs.Answer.{Answer, refusing}
 use Rattle.law.specs.Document.{bad_year, terms_answer, fill_answer}
@@ -20,7 +20,7 @@ use Rattle.units.proofs.Machine.{read}
 use Rattle.sun.specs.declared.term.TermRecord.{TermRecord}
 use Rattle.sun.specs.declared.worked_year.WorkedYear.{WorkedYear}
 use Rattle.sun.specs.Said.{values_of_term}
-use Rattle.sun.specs.Worked.{said_worked, WorkedOut}
+use Rattle.sun.specs.Worked.{WorkedOut}
 use Rattle.lists.specs.Fill.{Fills}
 
 -- a lent list whose first part was not stored is the list that it was
@@ -48,15 +48,10 @@ module _ (e : ℕ) (N : ℤ) (l : List TermRecord) where
   fill_short h = rw (lt-ltb (length l) 24 h, no_room_answer N) (record { says = refl; list = refl })
 
   -- else the year worked out decides, which is handed N as the machine reads it
-  module _ (h : 24 ≤ length l) (f : SFits w64 N) {r : Result WorkedYear Refusal} (w : WorkedOut (read w64 N) (terms_answer e (read w64 N)) r) where
-    fill_long : fill_answer e N (length l) ≡ said_worked r
-    unfolding fill_answer terms_answer
-    fill_long =
-        let out = subst (λ (z : ℤ). WorkedOut z (terms_answer e z) r) (to_z-of_z f) w in
-        rw (le-ltb (length l) 24 h) (tested_twice (bad_year N) _ ∙ sym out.says)
+  pub fill_long : 24 ≤ length l → SFits w64 N → fill_answer e N (length l) ≡ terms_answer e (read w64 N)
+  unfolding fill_answer terms_answer
+  fill_long h f = rw (le-ltb (length l) 24 h, to_z-of_z f) (tested_twice (bad_year N) _)
 
-    pub fill_refused : {q : Refusal} → r ≡ Err q → Fills (fill_answer e N (length l)) l l (Err q)
-    fill_refused i = rw (fill_long, i) (record { says = refl; list = refl })
-
-    pub fill_done : {out : WorkedYear} → r ≡ Ok out → Fills (fill_answer e N (length l)) l (out.terms ++ drop 24 l) (Ok tt)
-    fill_done {out} i = rw (fill_long, i) (record { says = refl; list = list_stored out.terms l })
+  pub fill_refused : 24 ≤ length l → SFits w64 N → {r : Result WorkedYear Refusal} → WorkedOut (read w64 N) (terms_answer e (read w64 N)) r → {q : Refusal}
+      → r ≡ Err q → Fills (fill_answer e N (length l)) l l (Err q)
+  fill_refused h f w i = rw (fill_long h f ∙ sym w.says, i) (record { says = refl; list = refl })

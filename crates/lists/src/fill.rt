@@ -7,6 +7,7 @@ use sun::TermRecord;
 use units::Refusal;
 
 // On a refusal the list stays as it was.
+#[tactic(auto, using(crate::proofs::ListFilled::fill_long, crate::proofs::ListFilled::list_stored))]
 pub fn fill_terms(list: &mut [TermRecord], n: i64) -> Result<(), Refusal>
     ensures { Fills (fill_answer epicycles n (length list.old)) list.old list.new result }
 {

@@ -15,6 +15,7 @@ pub struct ReadYear {
 
 // Its terms go into the first 24 records of the list, each count 0. Refuses 6 for the list, then as the book does. On a refusal the
 // list stays as it was.
+#[tactic(auto, using(crate::proofs::ReadAnswers::list_read))]
 pub fn read_year(bytes: &[u8], list: &mut [TermRecord]) -> Result<ReadYear, NoYear>
     ensures { ListRead bytes.now list.old list.new result }
 {
