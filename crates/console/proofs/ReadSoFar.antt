@@ -77,8 +77,8 @@ stops taken (b ∷ c ∷ bs) h all = absurd (omega (arith, h))
 
 -- ---- while the line is open
 
--- after so many reads what was taken of an input is the line so far, and what the rest makes of it is what document 01 says of the whole
--- input
+-- after so many reads, each of a byte at least, what was taken of an input is the line so far, and what the rest makes of it is what
+-- document 01 says of the whole input
 pub record ReadSoFar (reads : ℕ) (input left : Option (List ℕ)) (line : Line) : Type 0 where
   pub taken : List ℕ
   pub consumed : Consumes input left taken
